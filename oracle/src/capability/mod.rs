@@ -1,0 +1,3 @@
+//! Shim: the one module of `capability` that is carried.
+
+pub mod cache;
