@@ -23,9 +23,10 @@ slice-aggregate-copy c = search needs
 
 copy-requires : tie.Need-copy-requires
 unfolding reachOf
-copy-requires c κs = 
-    (λ some. omega (arith, c .before .before .reach .ensures),
-    λ some. omega (arith, c .before .before .reach .ensures, ap length (c .before .before .before .bytes-of .ensures)))
+copy-requires c κs = (
+  λ some. omega (arith, c .before .before .reach .ensures),
+  λ some. omega (arith, c .before .before .reach .ensures, ap length (c .before .before .before .bytes-of .ensures)),
+)
 
 answer-requires : tie.Need-answer-requires
 unfolding reachOf
@@ -36,7 +37,7 @@ same-length c = search needs
 
 returns-2 : tie.Need-returns-2
 unfolding stored
-returns-2 c = 
+returns-2 c =
     let x = c .before .before .before .before .before .before .before in
     rw (le-ltb _ _ (x .before .if1 .left), ← c .before .before .before .before .before .before .reach .ensures, ← x .bytes-of .ensures, c .answer .ensures, c .before .before .before .copy .ensures)
 
