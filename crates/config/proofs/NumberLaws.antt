@@ -1,5 +1,5 @@
 -- Division that rounds up, and a product of 64 bits by its halves.
-use Rattle.std.proofs.Common.{◌≡◌, ℕ, suc, ◌+◌, ◌-◌, ◌*◌, ◌/◌, ◌%◌, ◌^◌, ◌<◌, ◌≤◌, max, true, false, eqb, leb, sym, ◌∙◌, le_trans, add-zero, mod-lt, mod-eq_of_lt, mul_assoc, mul_comm, div-lt_iff_lt-mul, add-mul, mul-le-mul, one-mul, div-add-mod', le-div_iff_mul-le, zero-mul, mul-add, div-le_self, mul_right_comm, le-mul_of_pos_right, div-mul-le_self, div-one, arith, lit<, pow_mono, shl_exact, ne_eqb, le-leb}
+use Rattle.std.proofs.Common.{◌≡◌, ℕ, ◌+◌, ◌-◌, ◌*◌, ◌/◌, ◌%◌, ◌^◌, ◌<◌, ◌≤◌, max, true, false, eqb, leb, sym, ◌∙◌, le_trans, add-zero, mod-lt, mod-eq_of_lt, mul_assoc, mul_comm, div-lt_iff_lt-mul, add-mul, mul-le-mul, one-mul, div-add-mod', le-div_iff_mul-le, zero-mul, mul-add, div-le_self, mul_right_comm, le-mul_of_pos_right, div-mul-le_self, div-one, arith, lit<, pow_mono, shl_exact, ne_eqb, le-leb}
 use native.Mathlib.Nat.{div-eq_of_lt-le, div-div-eq-div-mul}
 use borrow.Author.Tests.{lt-leb}
 

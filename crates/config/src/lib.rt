@@ -3,6 +3,8 @@
 //
 // No function has a `requires`. Each answers on every configuration by the definitions of specs/, in
 // which n / 0 is 0 and n % 0 is n; docs/DIFFERENCES.md says where the Rust would stop instead.
+#![tactic(auto)]
+
 mod numbers;
 
 ghost use Rattle.std.specs.Prelude.{◌≡◌, ◌*◌, ◌<◌};
@@ -30,7 +32,7 @@ ghost use Rattle.config.specs.Config.{
 use numbers::{all, ceiling, is_power_of_two, quotient, remainder, wrapping_mul_u64};
 
 #[repr(C)]
-#[derive(Drop)]
+#[derive(Clone, Copy)]
 pub struct CacheConfig {
     // Total bytes, bytes per line, ways per set.
     pub size: u64,
@@ -85,6 +87,7 @@ impl CacheConfig {
     pub const MAX_CYCLES: u64 = 1000000;
 
     // The stock configuration.
+    #[tactic(auto, unfolding(crate::specs::Config::stock))]
     pub fn default() -> Self
         ensures { result ≡ stock }
     {
@@ -104,6 +107,7 @@ impl CacheConfig {
     }
 
     // All zeros: the configuration of the level that a refused opening (20 or 21) returns.
+    #[tactic(auto, unfolding(crate::specs::Config::none))]
     pub fn none() -> Self
         ensures { result ≡ none }
     {
@@ -123,6 +127,7 @@ impl CacheConfig {
     }
 
     // How many sets there are.
+    #[tactic(auto, unfolding(crate::specs::Config::num_sets))]
     pub fn num_sets(self) -> u64
         ensures { result ≡ num_sets self }
     {
@@ -141,24 +146,28 @@ impl CacheConfig {
         u64::trailing_zeros(self.num_sets())
     }
 
+    #[tactic(auto, unfolding(crate::specs::Config::addr_tag))]
     pub fn addr_tag(self, addr: u32) -> u32
         ensures { result ≡ addr_tag self addr }
     {
         quotient(quotient(addr as u64, self.line_size), self.num_sets()) as u32
     }
 
+    #[tactic(auto, unfolding(crate::specs::Config::addr_index))]
     pub fn addr_index(self, addr: u32) -> usize
         ensures { result ≡ addr_index self addr }
     {
         remainder(quotient(addr as u64, self.line_size), self.num_sets()) as usize
     }
 
+    #[tactic(auto, unfolding(crate::specs::Config::addr_offset))]
     pub fn addr_offset(self, addr: u32) -> usize
         ensures { result ≡ addr_offset self addr }
     {
         remainder(addr as u64, self.line_size) as usize
     }
 
+    #[tactic(auto, unfolding(crate::specs::Config::line_base, crate::specs::Config::addr_offset))]
     pub fn line_base(self, addr: u32) -> u32
         ensures { result ≡ line_base self addr }
     {
@@ -166,6 +175,7 @@ impl CacheConfig {
     }
 
     // 0 for a configuration that can be used, else the first reason of 1 to 9 that applies.
+    #[tactic(auto, unfolding(crate::specs::Config::reason_of))]
     pub fn validate(self) -> u8
         ensures { result ≡ reason_of self }
     {
@@ -189,6 +199,7 @@ impl CacheConfig {
         )
     }
 
+    #[tactic(auto, unfolding(crate::specs::Config::is_valid))]
     pub fn is_valid_config(self) -> bool
         ensures { result ≡ is_valid self }
     {
@@ -196,6 +207,7 @@ impl CacheConfig {
     }
 
     // Whether the numbers lie within the limits and each policy number names a policy.
+    #[tactic(auto, unfolding(crate::specs::Config::within_limits))]
     pub fn within_limits(self) -> bool
         ensures { result ≡ within_limits self }
     {
@@ -206,6 +218,7 @@ impl CacheConfig {
         )
     }
 
+    #[tactic(auto, unfolding(crate::specs::Config::geometry_within))]
     fn geometry_within(self) -> bool
         ensures { result ≡ geometry_within self }
     {
@@ -217,6 +230,7 @@ impl CacheConfig {
         )
     }
 
+    #[tactic(auto, unfolding(crate::specs::Config::cycles_within))]
     fn cycles_within(self) -> bool
         ensures { result ≡ cycles_within self }
     {
@@ -227,6 +241,7 @@ impl CacheConfig {
         )
     }
 
+    #[tactic(auto, unfolding(crate::specs::Config::policies_within))]
     fn policies_within(self) -> bool
         ensures { result ≡ policies_within self }
     {
@@ -238,6 +253,7 @@ impl CacheConfig {
     }
 
     // Cycles of a tag search, modulo 2^64: the hit's, and the penalty for each way beyond the first.
+    #[tactic(auto, unfolding(crate::specs::Config::search_cycles))]
     pub fn tag_search_cycles(self) -> u64
         ensures { result ≡ search_cycles self }
     {
@@ -249,6 +265,7 @@ impl CacheConfig {
     }
 
     // Cycles to move a line over the bus: line size by width, rounded up.
+    #[tactic(auto, unfolding(crate::specs::Config::transfer_cycles))]
     pub fn line_transfer_cycles(self) -> u64
         ensures { result ≡ transfer_cycles self }
     {
@@ -260,6 +277,7 @@ impl CacheConfig {
 }
 
 // The reasons from 5 on.
+#[tactic(auto, unfolding(crate::specs::Config::reason_of_sets))]
 fn reason_of_sets(size: u64, line_size: u64, ways: u64, inclusion: u8) -> u8
     requires { (0 < line_size) × (0 < ways) }
     ensures { result ≡ reason_of_sets size (line_size * ways) inclusion }
@@ -277,6 +295,7 @@ fn reason_of_sets(size: u64, line_size: u64, ways: u64, inclusion: u8) -> u8
     reason_of_rest(size / bytes_per_set, inclusion)
 }
 
+#[tactic(auto, unfolding(crate::specs::Config::reason_of_rest))]
 fn reason_of_rest(sets: u64, inclusion: u8) -> u8
     ensures { result ≡ reason_of_rest sets inclusion }
 {

@@ -36,6 +36,7 @@ pub fn ceiling(a: u64, b: u64) -> u64
     if a % b == 0 { a / b } else { a / b + 1 }
 }
 
+#[tactic(auto, using(crate::proofs::NumberLaws::one_shifted, crate::proofs::NumberLaws::no_power), unfolding(crate::specs::Config::power_of_two))]
 pub fn is_power_of_two(x: u64) -> bool
     ensures { result ≡ power_of_two x }
 {

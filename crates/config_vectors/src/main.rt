@@ -6,6 +6,8 @@
 // bytes each), transfer_width (4), replacement, write_policy, write_alloc, inclusion (1 each), address
 // (4), four zeros, little-endian. A line has the reason; for a valid configuration also the numbers of
 // `show`.
+#![tactic(auto)]
+
 ghost use Rattle.std.specs.Prelude.{◌+◌, ◌≤◌, length};
 
 use config::CacheConfig;

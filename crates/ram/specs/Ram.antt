@@ -1,5 +1,5 @@
 -- RAM as a list of bytes: how far a run of bytes reaches into it, and what a load and a store answer and leave.
-use Rattle.std.specs.Prelude.{ℕ, ◌+◌, ◌-◌, ◌/◌, ◌%◌, min, Bool, cond, List, [], ◌∷◌, ltb, length, get_or}
+use Rattle.std.specs.Prelude.{ℕ, ◌+◌, ◌-◌, ◌/◌, ◌%◌, min, cond, List, [], ◌∷◌, ltb, length, get_or}
 use Rattle.std.proofs.Math.Seq.{paste}
 use Rattle.ram.specs.declared.Loaded.{Loaded}
 use Rattle.ram.specs.declared.Stored.{Stored}

@@ -3,6 +3,8 @@
 //
 // Beside them what the level above rests on: `reach`, how far a run of bytes reaches into RAM without
 // looking at a byte, and `copy`, the one bulk move.
+#![tactic(auto)]
+
 ghost use Rattle.std.specs.Prelude.{◌≡◌, ◌+◌, ◌≤◌, ◌<◌, length, drop};
 ghost use Rattle.std.proofs.Math.Seq.{paste};
 ghost use Rattle.ram.specs.Ram.{reach_of, bytes_of, refused_load, loaded, answered, stored, storing};
@@ -12,7 +14,7 @@ pub const MAX_RAM: usize = 16777216;
 
 // 0 and the byte, or a refusal: its number, the address that lies outside, and value 0.
 #[repr(C)]
-#[derive(Drop)]
+#[derive(Clone, Copy)]
 pub struct Loaded {
     pub no: u8,
     pub place: u32,
@@ -21,13 +23,14 @@ pub struct Loaded {
 
 // 0, or a refusal's number and the first address that lies outside.
 #[repr(C)]
-#[derive(Drop)]
+#[derive(Clone, Copy)]
 pub struct Stored {
     pub no: u8,
     pub place: u32,
 }
 
 // How many of `n` bytes from `addr` on lie inside `len`.
+#[tactic(auto, unfolding(crate::specs::Ram::reach_of))]
 pub fn reach(len: usize, addr: u32, n: usize) -> usize
     ensures { result ≡ reach_of len addr n }
 {
@@ -54,6 +57,7 @@ pub fn copy(dst: &mut [u8], at: usize, src: &[u8], from: usize, n: usize)
 }
 
 // The byte at `addr`.
+#[tactic(auto, unfolding(crate::specs::Ram::loaded))]
 pub fn load8(ram: &[u8], addr: u32) -> Loaded
     ensures { result ≡ loaded ram.now addr }
 {
@@ -114,6 +118,7 @@ pub fn bytes_of(v: u32) -> [u8; 4]
 }
 
 // The three widths in one: the first `n` of the value's bytes are stored, as far as RAM reaches.
+#[tactic(auto, unfolding(crate::specs::Ram::reach_of, crate::specs::Ram::stored))]
 fn store(ram: &mut [u8], addr: u32, value: u32, n: usize) -> Stored
     requires { n ≤ 4 }
     ensures { storing result ram.new ≡ stored ram.old addr (bytes_of value) n }

@@ -4,6 +4,8 @@
 // A record has 12 bytes: kind (0 load8, 1 store8, 2 store16, 3 store32), length of RAM (0 to 8), two
 // zeros, address, value, little-endian. RAM byte i starts as 17 × (i + 1). A line has number, place,
 // value, and RAM after the call.
+#![tactic(auto)]
+
 ghost use Rattle.std.specs.Prelude.{◌+◌, ◌≤◌, length};
 
 fn main() {

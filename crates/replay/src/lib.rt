@@ -1,4 +1,6 @@
 // What the programs that replay a list share: numbers out of a record, and numbers onto a line.
+#![tactic(auto)]
+
 ghost use Rattle.std.specs.Prelude.{◌+◌, ◌≤◌, ◌<◌, length};
 
 fn wide(b: u8) -> u32

@@ -1,5 +1,7 @@
 // The C ABI of the libraries: one exported function for each, with its own contract, so that the
 // libraries stay free of C names. A slice is a pointer and a length; a struct goes by value.
+#![tactic(auto)]
+
 ghost use Rattle.std.specs.Prelude.{◌≡◌};
 ghost use Rattle.std.specs.Int.Count.{count_trailing_zeros};
 ghost use Rattle.ram.specs.Ram.{bytes_of, loaded, stored, storing};
