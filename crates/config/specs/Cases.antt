@@ -1,4 +1,4 @@
--- Document 01's cases for configurations, computed over the definitions. They join the [P] table.
+-- The cases to check by hand for configurations, computed over the definitions.
 use Rattle.std.specs.Prelude.{◌≡◌, ℕ, true, false, refl}
 use Rattle.config.specs.Numbers.{lru, write_back, write_allocate, non_inclusive}
 use Rattle.config.specs.Config.{power_of_two, num_sets, reason_of_rest, reason_of_sets, reason_of, geometry_within, cycles_within, policies_within, within_limits}

@@ -1,6 +1,6 @@
 -- `config.rs` as definitions: the reasons, the limits, and where an address falls. In these numbers n / 0 is 0 and n % 0 is n, so each
 -- stands for every configuration.
-use Rattle.std.specs.Prelude.{ℕ, ◌+◌, ◌-◌, ◌*◌, ◌/◌, ◌%◌, ◌^◌, max, Bool, cond, not, ◌&&◌, ◌==◌, nat_le, nat_lt}
+use Rattle.std.specs.Prelude.{ℕ, ◌+◌, ◌-◌, ◌*◌, ◌/◌, ◌%◌, ◌^◌, max, Bool, if◌then◌else◌, not, ◌&&◌, ◌==◌, nat_le, nat_lt}
 use Rattle.std.specs.Int.Count.{count_trailing_zeros}
 use Rattle.config.specs.Numbers.{
   lru,
@@ -32,26 +32,29 @@ num_sets c = c.size / set_bytes c
 
 -- sets not a power of two; inclusion other than NonInclusive
 unfoldable pub reason_of_rest : ℕ → ℕ → ℕ
-reason_of_rest sets inclusion = cond (not (power_of_two sets)) 8 (cond (not (inclusion == non_inclusive)) 9 0)
+reason_of_rest sets inclusion =
+    if not (power_of_two sets) then 8 else
+    if not (inclusion == non_inclusive) then 9 else 0
 
 -- line × ways over 64 bits; above size; size not a multiple of it
 unfoldable pub reason_of_sets : ℕ → ℕ → ℕ → ℕ
 reason_of_sets size bytes inclusion =
-    cond (nat_le (2 ^ 64) bytes) 5
-    (cond (nat_lt size bytes) 6 (cond (not (size % bytes == 0)) 7 (reason_of_rest (size / bytes) inclusion)))
+    if nat_le (2 ^ 64) bytes then 5 else
+    if nat_lt size bytes then 6 else
+    if not (size % bytes == 0) then 7 else reason_of_rest (size / bytes) inclusion
 
 -- size 0; line size under 4; no ways; line size not a power of two
 unfoldable pub reason_of : CacheConfig → ℕ
 reason_of c =
-    cond (c.size == 0) 1
-    (cond (nat_lt c.line_size 4) 2
-    (cond (c.associativity == 0) 3
-    (cond (not (power_of_two c.line_size)) 4 (reason_of_sets c.size (set_bytes c) c.inclusion))))
+    if c.size == 0 then 1 else
+    if nat_lt c.line_size 4 then 2 else
+    if c.associativity == 0 then 3 else
+    if not (power_of_two c.line_size) then 4 else reason_of_sets c.size (set_bytes c) c.inclusion
 
 unfoldable pub is_valid : CacheConfig → Bool
 is_valid c = reason_of c == 0
 
--- ---- 'Numbers we allow'
+-- ---- the limits
 
 -- line size at most 256, ways at most 16, sets × ways at most 256
 unfoldable pub geometry_within : CacheConfig → Bool

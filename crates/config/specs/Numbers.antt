@@ -1,4 +1,4 @@
--- Document 01's numbers: the policies, in the order of capability/cache.rs, and 'Numbers we allow'. The code has the same as associated
+-- The numbers of the rules: the policies', in the order of capability/cache.rs, and the limits. The code has the same as associated
 -- constants of `CacheConfig`.
 use Rattle.std.specs.Prelude.{ℕ}
 

@@ -1,23 +1,25 @@
-// The configuration of a cache level, as config.rs has it: what is valid, what lies within the
-// limits, where an address falls, and what a look costs.
-//
-// No function has a `requires`. Each answers on every configuration by the definitions of specs/, in
-// which n / 0 is 0 and n % 0 is n; docs/DIFFERENCES.md says where the Rust would stop instead.
+//! The configuration of a cache level, as config.rs has it: what is valid, what lies within the
+//! limits, where an address falls, and what a look costs.
+//!
+//! No function has a `requires`. Each answers on every configuration by the definitions of specs/, in
+//! which n / 0 is 0 and n % 0 is n; docs/DIFFERENCES.md says where the Rust would stop instead.
 #![tactic(auto)]
 
-mod numbers;
+mod policy;
+mod reason;
 
-ghost use Rattle.std.specs.Prelude.{◌≡◌, ◌*◌, ◌<◌};
+ghost use Rattle.std.specs.Prelude.{◌≡◌, ◌/◌, ◌<◌, ◌^◌};
+ghost use Rattle.std.specs.Option.{SomeIff};
 ghost use Rattle.std.specs.Int.Count.{count_trailing_zeros};
 ghost use Rattle.config.specs.Config.{
   reason_of,
   reason_of_sets,
-  reason_of_rest,
   is_valid,
   within_limits,
   geometry_within,
   cycles_within,
   policies_within,
+  set_bytes,
   num_sets,
   addr_tag,
   addr_index,
@@ -28,69 +30,43 @@ ghost use Rattle.config.specs.Config.{
   stock,
   none,
 };
+ghost use Rattle.config.specs.Reasons.{verdict_of};
 
-use numbers::{all, ceiling, is_power_of_two, quotient, remainder, wrapping_mul_u64};
+pub use policy::{ReplacementPolicy, UnknownPolicy, WriteAllocPolicy, WritePolicy};
+pub use reason::Reason;
 
+/// A configuration, right or wrong: each policy is the number that names it, since any number is
+/// answered, here and from C.
 #[repr(C)]
-#[derive(Clone, Copy)]
+#[derive(Clone, Copy, Debug, PartialEq, Eq, Hash)]
 pub struct CacheConfig {
-    // Total bytes, bytes per line, ways per set.
+    /// Total bytes.
     pub size: u64,
+    /// Bytes per line.
     pub line_size: u64,
+    /// Ways per set.
     pub associativity: u64,
-    // The policies, by the numbers below.
+    /// The policies, by the numbers below.
     pub replacement: u8,
     pub write_policy: u8,
     pub write_alloc: u8,
     pub inclusion: u8,
-    // Cycles: of a hit, more on a miss, more for each way beyond the first.
+    /// Cycles of a hit.
     pub hit_latency: u64,
+    /// More cycles on a miss.
     pub miss_penalty: u64,
+    /// More cycles for each way beyond the first.
     pub assoc_penalty: u64,
-    // Bus width in bytes; 0 counts as 1.
+    /// Bus width in bytes; 0 counts as 1.
     pub transfer_width: u32,
 }
 
-impl CacheConfig {
-    pub const LRU: u8 = 0;
+/// The stock configuration.
+impl Default for CacheConfig {
+    ghost is_default = { λ c. c ≡ stock };
 
-    pub const MRU: u8 = 1;
-
-    pub const FIFO: u8 = 2;
-
-    pub const RANDOM: u8 = 3;
-
-    pub const LFU: u8 = 4;
-
-    pub const CLOCK: u8 = 5;
-
-    pub const WRITE_THROUGH: u8 = 0;
-
-    pub const WRITE_BACK: u8 = 1;
-
-    pub const WRITE_ALLOCATE: u8 = 0;
-
-    pub const NO_WRITE_ALLOCATE: u8 = 1;
-
-    pub const NON_INCLUSIVE: u8 = 0;
-
-    pub const INCLUSIVE: u8 = 1;
-
-    pub const EXCLUSIVE: u8 = 2;
-
-    pub const MAX_LINE_SIZE: u64 = 256;
-
-    pub const MAX_WAYS: u64 = 16;
-
-    pub const MAX_LINES: u64 = 256;
-
-    pub const MAX_CYCLES: u64 = 1000000;
-
-    // The stock configuration.
     #[tactic(auto, unfolding(crate::specs::Config::stock))]
-    pub fn default() -> Self
-        ensures { result ≡ stock }
-    {
+    fn default() -> Self {
         CacheConfig {
             size: 1024,
             line_size: 16,
@@ -105,8 +81,44 @@ impl CacheConfig {
             transfer_width: 8,
         }
     }
+}
 
-    // All zeros: the configuration of the level that a refused opening (20 or 21) returns.
+impl CacheConfig {
+    pub const LRU: u8 = ReplacementPolicy::Lru as u8;
+
+    pub const MRU: u8 = ReplacementPolicy::Mru as u8;
+
+    pub const FIFO: u8 = ReplacementPolicy::Fifo as u8;
+
+    pub const RANDOM: u8 = ReplacementPolicy::Random as u8;
+
+    pub const LFU: u8 = ReplacementPolicy::Lfu as u8;
+
+    pub const CLOCK: u8 = ReplacementPolicy::Clock as u8;
+
+    pub const WRITE_THROUGH: u8 = WritePolicy::WriteThrough as u8;
+
+    pub const WRITE_BACK: u8 = WritePolicy::WriteBack as u8;
+
+    pub const WRITE_ALLOCATE: u8 = WriteAllocPolicy::WriteAllocate as u8;
+
+    pub const NO_WRITE_ALLOCATE: u8 = WriteAllocPolicy::NoWriteAllocate as u8;
+
+    pub const NON_INCLUSIVE: u8 = 0;
+
+    pub const INCLUSIVE: u8 = 1;
+
+    pub const EXCLUSIVE: u8 = 2;
+
+    pub const MAX_LINE_SIZE: u64 = 256;
+
+    pub const MAX_WAYS: u64 = 16;
+
+    pub const MAX_LINES: u64 = 256;
+
+    pub const MAX_CYCLES: u64 = 1_000_000;
+
+    /// All zeros: the configuration of the level that a refused opening (20 or 21) returns.
     #[tactic(auto, unfolding(crate::specs::Config::none))]
     pub fn none() -> Self
         ensures { result ≡ none }
@@ -126,184 +138,203 @@ impl CacheConfig {
         }
     }
 
-    // How many sets there are.
+    // Bytes in a set, where 64 bits hold them.
+    fn bytes_per_set(self) -> Option<u64>
+        ensures { SomeIff result (set_bytes self < 2 ^ 64) (set_bytes self) }
+    {
+        self.line_size.checked_mul(self.associativity)
+    }
+
+    /// How many sets there are.
     #[tactic(auto, unfolding(crate::specs::Config::num_sets))]
     pub fn num_sets(self) -> u64
         ensures { result ≡ num_sets self }
     {
-        quotient(quotient(self.size, self.line_size), self.associativity)
+        match self.bytes_per_set() {
+            Some(bytes_per_set) => self.size.checked_div(bytes_per_set).unwrap_or(0),
+            None => 0,
+        }
     }
 
     pub fn offset_bits(self) -> u32
         ensures { result ≡ count_trailing_zeros 64 self.line_size }
     {
-        u64::trailing_zeros(self.line_size)
+        self.line_size.trailing_zeros()
     }
 
     pub fn index_bits(self) -> u32
         ensures { result ≡ count_trailing_zeros 64 (num_sets self) }
     {
-        u64::trailing_zeros(self.num_sets())
+        self.num_sets().trailing_zeros()
     }
 
-    #[tactic(auto, unfolding(crate::specs::Config::addr_tag))]
+    // Which of the lines of memory the address lies in.
+    fn line_number(self, addr: u32) -> u64
+        ensures { result ≡ addr / self.line_size }
+    {
+        u64::from(addr).checked_div(self.line_size).unwrap_or(0)
+    }
+
+    #[tactic(auto, unfolding(crate::specs::Config::addr_tag), using(crate::proofs::NumberLaws::quotient_twice))]
     pub fn addr_tag(self, addr: u32) -> u32
         ensures { result ≡ addr_tag self addr }
     {
-        quotient(quotient(addr as u64, self.line_size), self.num_sets()) as u32
+        self.line_number(addr)
+            .checked_div(self.num_sets())
+            .unwrap_or(0) as u32
     }
 
     #[tactic(auto, unfolding(crate::specs::Config::addr_index))]
     pub fn addr_index(self, addr: u32) -> usize
         ensures { result ≡ addr_index self addr }
     {
-        remainder(quotient(addr as u64, self.line_size), self.num_sets()) as usize
+        let line = self.line_number(addr);
+        line.checked_rem(self.num_sets()).unwrap_or(line) as usize
     }
 
     #[tactic(auto, unfolding(crate::specs::Config::addr_offset))]
     pub fn addr_offset(self, addr: u32) -> usize
         ensures { result ≡ addr_offset self addr }
     {
-        remainder(addr as u64, self.line_size) as usize
+        let addr = u64::from(addr);
+        addr.checked_rem(self.line_size).unwrap_or(addr) as usize
     }
 
     #[tactic(auto, unfolding(crate::specs::Config::line_base, crate::specs::Config::addr_offset))]
     pub fn line_base(self, addr: u32) -> u32
         ensures { result ≡ line_base self addr }
     {
-        addr - remainder(addr as u64, self.line_size) as u32
+        addr - self.addr_offset(addr) as u32
     }
 
-    // 0 for a configuration that can be used, else the first reason of 1 to 9 that applies.
-    #[tactic(auto, unfolding(crate::specs::Config::reason_of))]
-    pub fn validate(self) -> u8
-        ensures { result ≡ reason_of self }
+    /// `Ok` for a configuration that can be used, else the first reason that applies.
+    #[tactic(auto, unfolding(crate::specs::Config::reason_of), using(crate::proofs::PowerLaws::one_set_power))]
+    pub fn validate(self) -> Result<(), Reason>
+        ensures { verdict_of result ≡ reason_of self }
     {
         if self.size == 0 {
-            return 1;
+            return Err(Reason::NoSize);
         }
         if self.line_size < 4 {
-            return 2;
+            return Err(Reason::LineTooShort);
         }
         if self.associativity == 0 {
-            return 3;
+            return Err(Reason::NoWays);
         }
-        if !is_power_of_two(self.line_size) {
-            return 4;
+        if !self.line_size.is_power_of_two() {
+            return Err(Reason::LineNotPowerOfTwo);
         }
-        reason_of_sets(
-            self.size,
-            self.line_size,
-            self.associativity,
-            self.inclusion,
-        )
+        self.validate_sets()
+    }
+
+    // The reasons from 5 on.
+    #[tactic(auto, unfolding(crate::specs::Config::reason_of_sets, crate::specs::Config::reason_of_rest, crate::specs::Config::num_sets), using(crate::proofs::PowerLaws::one_set_power))]
+    fn validate_sets(self) -> Result<(), Reason>
+        ensures { verdict_of result ≡ reason_of_sets self.size (set_bytes self) self.inclusion }
+    {
+        let bytes_per_set = self.bytes_per_set().ok_or(Reason::SetOverflows)?;
+        if bytes_per_set > self.size {
+            return Err(Reason::SetAboveSize);
+        }
+        if !self.size.is_multiple_of(bytes_per_set) {
+            return Err(Reason::SizeNotWholeSets);
+        }
+        if !self.num_sets().is_power_of_two() {
+            return Err(Reason::SetsNotPowerOfTwo);
+        }
+        if self.inclusion != CacheConfig::NON_INCLUSIVE {
+            return Err(Reason::NotNonInclusive);
+        }
+        Ok(())
     }
 
     #[tactic(auto, unfolding(crate::specs::Config::is_valid))]
     pub fn is_valid_config(self) -> bool
         ensures { result ≡ is_valid self }
     {
-        self.validate() == 0
+        self.validate().is_ok()
     }
 
-    // Whether the numbers lie within the limits and each policy number names a policy.
+    /// Whether the numbers lie within the limits and each policy number names a policy.
     #[tactic(auto, unfolding(crate::specs::Config::within_limits))]
     pub fn within_limits(self) -> bool
         ensures { result ≡ within_limits self }
     {
-        all(
-            self.geometry_within(),
-            self.cycles_within(),
-            self.policies_within(),
-        )
+        self.geometry_within() && self.cycles_within() && self.policies_within()
     }
 
-    #[tactic(auto, unfolding(crate::specs::Config::geometry_within))]
+    #[tactic(auto, unfolding(crate::specs::Config::geometry_within), using(crate::proofs::NumberLaws::lines_le))]
     fn geometry_within(self) -> bool
         ensures { result ≡ geometry_within self }
     {
-        let lines = self.num_sets() * self.associativity;
-        all(
-            self.line_size <= CacheConfig::MAX_LINE_SIZE,
-            self.associativity <= CacheConfig::MAX_WAYS,
-            lines <= CacheConfig::MAX_LINES,
-        )
+        self.line_size <= CacheConfig::MAX_LINE_SIZE
+            && self.associativity <= CacheConfig::MAX_WAYS
+            && self.num_sets() * self.associativity <= CacheConfig::MAX_LINES
     }
 
     #[tactic(auto, unfolding(crate::specs::Config::cycles_within))]
     fn cycles_within(self) -> bool
         ensures { result ≡ cycles_within self }
     {
-        all(
-            self.hit_latency <= CacheConfig::MAX_CYCLES,
-            self.miss_penalty <= CacheConfig::MAX_CYCLES,
-            self.assoc_penalty <= CacheConfig::MAX_CYCLES,
-        )
+        self.hit_latency <= CacheConfig::MAX_CYCLES
+            && self.miss_penalty <= CacheConfig::MAX_CYCLES
+            && self.assoc_penalty <= CacheConfig::MAX_CYCLES
     }
 
     #[tactic(auto, unfolding(crate::specs::Config::policies_within))]
     fn policies_within(self) -> bool
         ensures { result ≡ policies_within self }
     {
-        all(
-            self.replacement <= CacheConfig::CLOCK,
-            self.write_policy <= CacheConfig::WRITE_BACK,
-            self.write_alloc <= CacheConfig::NO_WRITE_ALLOCATE,
-        )
+        ReplacementPolicy::try_from(self.replacement).is_ok()
+            && WritePolicy::try_from(self.write_policy).is_ok()
+            && WriteAllocPolicy::try_from(self.write_alloc).is_ok()
     }
 
-    // Cycles of a tag search, modulo 2^64: the hit's, and the penalty for each way beyond the first.
+    /// Cycles of a tag search, modulo 2^64: the hit's, and the penalty for each way beyond the first.
     #[tactic(auto, unfolding(crate::specs::Config::search_cycles))]
     pub fn tag_search_cycles(self) -> u64
         ensures { result ≡ search_cycles self }
     {
-        if self.associativity == 0 {
-            return self.hit_latency;
-        }
-        let more = wrapping_mul_u64(self.associativity - 1, self.assoc_penalty);
-        std::num::wrapping_add_u64(self.hit_latency, more)
+        let more_ways = self.associativity.saturating_sub(1);
+        self.hit_latency
+            .wrapping_add(more_ways.wrapping_mul(self.assoc_penalty))
     }
 
-    // Cycles to move a line over the bus: line size by width, rounded up.
-    #[tactic(auto, unfolding(crate::specs::Config::transfer_cycles))]
+    /// Cycles to move a line over the bus: line size by width, rounded up.
+    #[tactic(auto, unfolding(crate::specs::Config::transfer_cycles), using(crate::proofs::NumberLaws::rounded_up))]
     pub fn line_transfer_cycles(self) -> u64
         ensures { result ≡ transfer_cycles self }
     {
-        if self.transfer_width == 0 {
-            return self.line_size;
-        }
-        ceiling(self.line_size, self.transfer_width as u64)
+        self.line_size
+            .div_ceil(u64::from(self.transfer_width.max(1)))
     }
 }
 
-// The reasons from 5 on.
-#[tactic(auto, unfolding(crate::specs::Config::reason_of_sets))]
-fn reason_of_sets(size: u64, line_size: u64, ways: u64, inclusion: u8) -> u8
-    requires { (0 < line_size) × (0 < ways) }
-    ensures { result ≡ reason_of_sets size (line_size * ways) inclusion }
-{
-    if u64::MAX / line_size < ways {
-        return 5;
-    }
-    let bytes_per_set = line_size * ways;
-    if size < bytes_per_set {
-        return 6;
-    }
-    if size % bytes_per_set != 0 {
-        return 7;
-    }
-    reason_of_rest(size / bytes_per_set, inclusion)
-}
+#[cfg(test)]
+mod tests {
+    use super::*;
+    use std::test::Fail;
 
-#[tactic(auto, unfolding(crate::specs::Config::reason_of_rest))]
-fn reason_of_rest(sets: u64, inclusion: u8) -> u8
-    ensures { result ≡ reason_of_rest sets inclusion }
-{
-    if !is_power_of_two(sets) {
-        return 8;
+    #[test]
+    fn says_what_is_wrong(rt: HostRuntime) -> Result<(), Fail> {
+        let mut config = CacheConfig::default();
+        assert_eq!(rt; config.validate(), Ok(()));
+        config.size = 96;
+        assert_eq!(rt; config.validate(), Err(Reason::SetsNotPowerOfTwo));
+        let text = format!(in rt.alloc(); "{}; {}", Reason::SetsNotPowerOfTwo, UnknownPolicy(6))?;
+        assert_eq!(rt;
+            text.as_str(),
+            "the number of sets is not a power of 2; no policy has number 6"
+        );
+        Ok(())
     }
-    if inclusion != CacheConfig::NON_INCLUSIVE {
-        return 9;
+
+    #[test]
+    fn numbers_name_policies(rt: HostRuntime) {
+        assert_eq!(rt;
+            ReplacementPolicy::try_from(CacheConfig::LFU),
+            Ok(ReplacementPolicy::Lfu)
+        );
+        assert_eq!(rt; WritePolicy::try_from(2), Err(UnknownPolicy(2)));
     }
-    0
 }

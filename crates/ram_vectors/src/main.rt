@@ -1,67 +1,71 @@
-// Replays a fixed list of calls on RAM's four functions and prints each answer; `stdout` beside this
-// folder has what the unchanged Rust answered. Both were written by `compare vectors ram`.
-//
-// A record has 12 bytes: kind (0 load8, 1 store8, 2 store16, 3 store32), length of RAM (0 to 8), two
-// zeros, address, value, little-endian. RAM byte i starts as 17 × (i + 1). A line has number, place,
-// value, and RAM after the call.
+//! Replays a fixed list of calls on RAM's four functions and prints each answer; `stdout` beside this
+//! folder has what the unchanged Rust answered. Both were written by `compare vectors ram`.
+//!
+//! A record has 12 bytes: kind (0 load8, 1 store8, 2 store16, 3 store32), length of RAM (0 to 8), two
+//! zeros, address, value, little-endian. RAM byte i starts as 17 × (i + 1). A line has number, place,
+//! value, and RAM after the call.
 #![tactic(auto)]
 
-ghost use Rattle.std.specs.Prelude.{◌+◌, ◌≤◌, length};
+use byteorder::{ByteOrder, LittleEndian};
+use ram::{Loaded, Refusal};
+use std::io;
 
-fn main() {
-    let mut list = [0u8; 8192];
-    let n = io::read_full(0, &mut list);
-    each(&list[..n]);
+// The longest list: 8,192 bytes.
+const MOST: u32 = 682;
+
+fn main(rt: HostRuntime) -> io::Result<()> {
+    let mut input = rt.reader();
+    for _ in 0..MOST {
+        let Some(record) = replay::next_record(&mut input) else {
+            break;
+        };
+        one(&rt, &record)?;
+    }
+    Ok(())
 }
 
-fn each(list: &[u8]) {
-    let mut at = 0;
-    while 12 <= list.len() - at {
-        one(list, at);
-        at += 12;
+/// Which of RAM's functions a record calls.
+#[derive(Clone, Copy, Debug, PartialEq, Eq)]
+enum Call {
+    Load8,
+    Store8,
+    Store16,
+    Store32,
+}
+
+impl From<u8> for Call {
+    fn from(kind: u8) -> Call {
+        match kind {
+            0 => Call::Load8,
+            1 => Call::Store8,
+            2 => Call::Store16,
+            _ => Call::Store32,
+        }
     }
 }
 
-fn one(list: &[u8], at: usize)
-    requires { at + 12 ≤ length list.now }
-{
-    let len = at_most_8(list[at + 1]);
-    let mut ram = [17u8, 34, 51, 68, 85, 102, 119, 136];
-    let addr = replay::word_at(list, at + 4);
-    let value = replay::word_at(list, at + 8);
-    show(list[at], addr, value, &mut ram[..len]);
-}
-
-fn show(kind: u8, addr: u32, value: u32, ram: &mut [u8]) {
-    told(call(kind, addr, value, ram));
-    replay::print_bytes(ram);
-}
-
-fn call(kind: u8, addr: u32, value: u32, ram: &mut [u8]) -> ram::Loaded {
-    match kind {
-        0 => ram::load8(ram, addr),
-        1 => stored(ram::store8(ram, addr, (value % 256) as u8)),
-        2 => stored(ram::store16(ram, addr, (value % 65536) as u16)),
-        _ => stored(ram::store32(ram, addr, value)),
+impl Call {
+    // What the call answers; a store's value is 0.
+    fn run(self, ram: &mut [u8], addr: u32, value: u32) -> Result<u8, Refusal> {
+        match self {
+            Call::Load8 => return ram::load8(ram, addr),
+            Call::Store8 => ram::store8(ram, addr, (value % 256) as u8)?,
+            Call::Store16 => ram::store16(ram, addr, (value % 65536) as u16)?,
+            Call::Store32 => ram::store32(ram, addr, value)?,
+        }
+        Ok(0)
     }
 }
 
-fn stored(s: ram::Stored) -> ram::Loaded {
-    ram::Loaded {
-        no: s.no,
-        place: s.place,
-        value: 0,
+fn one(rt: &impl Print, record: &[u8; 12]) -> io::Result<()> {
+    let mut bytes = [17u8, 34, 51, 68, 85, 102, 119, 136];
+    let ram = &mut bytes[..record[1].min(8) as usize];
+    let addr = LittleEndian::read_u32(&record[4..]);
+    let value = LittleEndian::read_u32(&record[8..]);
+    let answer = Loaded::from(Call::from(record[0]).run(ram, addr, value));
+    print!(rt; "{} {} {}", answer.no, answer.place, answer.value)?;
+    for byte in ram.iter() {
+        print!(rt; " {byte}")?;
     }
-}
-
-fn told(a: ram::Loaded) {
-    replay::print(a.no as u64);
-    replay::print(a.place as u64);
-    io::print_decimal(1, a.value as u64);
-}
-
-fn at_most_8(n: u8) -> usize
-    ensures { result ≤ 8 }
-{
-    if n <= 8 { n as usize } else { 8 }
+    println!(rt)
 }

@@ -1,63 +1,29 @@
-// What the programs that replay a list share: numbers out of a record, and numbers onto a line.
+//! What the programs that replay a list of the Rust's answers share.
 #![tactic(auto)]
 
-ghost use Rattle.std.specs.Prelude.{◌+◌, ◌≤◌, ◌<◌, length};
+ghost use Rattle.std.specs.Prelude.{IfSome};
+ghost use Rattle.std.specs.Io.KnownBytes.{Consumes};
 
-fn wide(b: u8) -> u32
-    ensures { result < 256 }
+use std::io::Read;
+
+/// The next record of `N` bytes, or `None` where the input has no whole one left or fails. After a
+/// `None` nothing is known of the input.
+pub fn next_record<const N: usize, R: Read>(input: &mut R) -> Option<[u8; N]>
+    ensures { IfSome result (λ bytes. Consumes (R.remaining input.old) (R.remaining input.new) bytes) }
 {
-    b as u32
+    let mut record = [0u8; N];
+    input.read_exact(&mut record).ok()?;
+    Some(record)
 }
 
-// The 32-bit number at `at`, little-endian.
-pub fn word_at(list: &[u8], at: usize) -> u32
-    requires { at + 4 ≤ length list.now }
-    ensures { result < 4294967296 }
-{
-    let b0 = wide(list[at]);
-    let b1 = wide(list[at + 1]);
-    let b2 = wide(list[at + 2]);
-    let b3 = wide(list[at + 3]);
-    b0 + b1 * 256 + b2 * 65536 + b3 * 16777216
-}
+#[cfg(test)]
+mod tests {
+    use super::*;
 
-// The 64-bit number at `at`, little-endian.
-pub fn long_at(list: &[u8], at: usize) -> u64
-    requires { at + 8 ≤ length list.now }
-{
-    let low = word_at(list, at) as u64;
-    let high = word_at(list, at + 4) as u64;
-    low + high * 4294967296
-}
-
-// A number, and a space before the next.
-pub fn print(n: u64) {
-    io::print_decimal(1, n);
-    io::write_all(1, b" ");
-}
-
-// The line's last number.
-pub fn print_last(n: u64) {
-    io::print_decimal(1, n);
-    end_line();
-}
-
-pub fn end_line() {
-    io::write_all(1, b"\n");
-}
-
-// A number after a space.
-fn print_after(n: u64) {
-    io::write_all(1, b" ");
-    io::print_decimal(1, n);
-}
-
-// The bytes, each after a space, and the line's end.
-pub fn print_bytes(bytes: &[u8]) {
-    let mut i = 0;
-    while i < bytes.len() {
-        print_after(wide(bytes[i]) as u64);
-        i += 1;
+    #[test]
+    fn leaves_out_a_part_of_a_record(rt: HostRuntime) {
+        let mut input = &[1u8, 2, 3][..];
+        assert_eq!(rt; next_record(&mut input), Some([1u8, 2]));
+        assert_eq!(rt; next_record::<2, _>(&mut input), None);
     }
-    end_line();
 }

@@ -1,5 +1,6 @@
-// The C ABI of the libraries: one exported function for each, with its own contract, so that the
-// libraries stay free of C names. A slice is a pointer and a length; a struct goes by value.
+//! The C ABI of the libraries: one exported function for each, with its own contract, so that the
+//! libraries stay free of C names. A slice is a pointer and a length; a struct goes by value; an answer
+//! is in numbers.
 #![tactic(auto)]
 
 ghost use Rattle.std.specs.Prelude.{◌≡◌};
@@ -28,28 +29,28 @@ use ram::{Loaded, Stored};
 pub extern "C" fn tg_ram_load8(ram: &[u8], addr: u32) -> Loaded
     ensures { result ≡ loaded ram.now addr }
 {
-    ram::load8(ram, addr)
+    ram::load8(ram, addr).into()
 }
 
 #[unsafe(no_mangle)]
 pub extern "C" fn tg_ram_store8(ram: &mut [u8], addr: u32, value: u8) -> Stored
     ensures { storing result ram.new ≡ stored ram.old addr (bytes_of value) 1 }
 {
-    ram::store8(ram, addr, value)
+    ram::store8(ram, addr, value).into()
 }
 
 #[unsafe(no_mangle)]
 pub extern "C" fn tg_ram_store16(ram: &mut [u8], addr: u32, value: u16) -> Stored
     ensures { storing result ram.new ≡ stored ram.old addr (bytes_of value) 2 }
 {
-    ram::store16(ram, addr, value)
+    ram::store16(ram, addr, value).into()
 }
 
 #[unsafe(no_mangle)]
 pub extern "C" fn tg_ram_store32(ram: &mut [u8], addr: u32, value: u32) -> Stored
     ensures { storing result ram.new ≡ stored ram.old addr (bytes_of value) 4 }
 {
-    ram::store32(ram, addr, value)
+    ram::store32(ram, addr, value).into()
 }
 
 // ---- configuration
@@ -65,7 +66,10 @@ pub extern "C" fn tg_config_default() -> CacheConfig
 pub extern "C" fn tg_config_validate(c: CacheConfig) -> u8
     ensures { result ≡ reason_of c }
 {
-    c.validate()
+    match c.validate() {
+        Ok(()) => 0,
+        Err(reason) => reason.number(),
+    }
 }
 
 #[unsafe(no_mangle)]
