@@ -39,7 +39,7 @@ impl From<Stored> for Loaded {
 }
 
 impl Call {
-    /// The Rust's answer, by document 01's numbers.
+    /// The Rust's answer, by number and place.
     pub fn in_rust(self, ram: &mut Ram) -> Loaded {
         let Call { addr, value, .. } = self;
         let done = match self.kind {
