@@ -4,7 +4,7 @@ use Rattle.config.specs.Config.{num_sets}
 use Rattle.config.specs.declared.CacheConfig.{CacheConfig}
 use native.Mathlib.Nat.{div-eq_of_lt-le, div-div-eq-div-mul}
 
--- two divisions in a row are one by the product
+-- two divisions in a row are one by the product; a name for it that `using` can say
 pub quotient_twice : (a b c : ℕ) → a / b / c ≡ a / (b * c)
 quotient_twice a b c = div-div-eq-div-mul a b c
 

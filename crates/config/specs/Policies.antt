@@ -1,5 +1,5 @@
 -- The policies that numbers name.
-use Rattle.std.specs.Prelude.{◌≡◌, ℕ, ◌<◌, Result, MatchResult}
+use Rattle.std.specs.Prelude.{◌≡◌, ℕ, ◌<◌, List, ◌++◌, codes, decimal, Result, MatchResult}
 use Rattle.config.specs.Numbers.{lru, mru, fifo, random, lfu, clock, write_through, write_back, write_allocate, no_write_allocate}
 use Rattle.config.specs.declared.policy.ReplacementPolicy.{ReplacementPolicy}
 use Rattle.config.specs.declared.policy.ReplacementPolicy.TheVariants.{Lru, Mru, Fifo, Random, Lfu, Clock}
@@ -24,6 +24,9 @@ write_number WriteBack = write_back
 abbrev pub write_alloc_number : WriteAllocPolicy → ℕ
 write_alloc_number WriteAllocate = write_allocate
 write_alloc_number NoWriteAllocate = no_write_allocate
+
+abbrev pub unknown_text : UnknownPolicy → List ℕ
+unknown_text unknown = codes "no policy has number " ++ decimal unknown.0
 
 -- the answer is the policy that has this number, or that number where it lies past the last that names one
 abbrev pub Names : {P : Type 0} → (P → ℕ) → ℕ → ℕ → Result P UnknownPolicy → Type 0

@@ -1,5 +1,6 @@
+ghost use Rattle.std.specs.Prelude.{Some};
 ghost use Rattle.config.specs.Numbers.{clock, write_back, no_write_allocate};
-ghost use Rattle.config.specs.Policies.{Names, replacement_number, write_number, write_alloc_number};
+ghost use Rattle.config.specs.Policies.{Names, unknown_text, replacement_number, write_number, write_alloc_number};
 
 use std::error::Error;
 use std::fmt;
@@ -34,6 +35,8 @@ pub enum WriteAllocPolicy {
 pub struct UnknownPolicy(pub u8);
 
 impl fmt::Display for UnknownPolicy {
+    ghost output = { λ unknown. Some (unknown_text unknown) };
+
     fn fmt<W: fmt::Write>(&self, f: &mut fmt::Formatter<W>) -> fmt::Result {
         write!(f, "no policy has number {}", self.0)
     }

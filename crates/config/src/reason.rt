@@ -1,5 +1,5 @@
-ghost use Rattle.std.specs.Prelude.{◌≡◌};
-ghost use Rattle.config.specs.Reasons.{number_of};
+ghost use Rattle.std.specs.Prelude.{Some, ◌≡◌};
+ghost use Rattle.config.specs.Reasons.{number_of, text_of};
 
 use std::error::Error;
 use std::fmt;
@@ -15,7 +15,7 @@ pub enum Reason {
     SetAboveSize = 6,
     SizeNotWholeSets = 7,
     SetsNotPowerOfTwo = 8,
-    NotNonInclusive = 9,
+    InclusionUnsupported = 9,
 }
 
 impl Reason {
@@ -28,6 +28,8 @@ impl Reason {
 }
 
 impl fmt::Display for Reason {
+    ghost output = { λ reason. Some (text_of reason) };
+
     fn fmt<W: fmt::Write>(&self, f: &mut fmt::Formatter<W>) -> fmt::Result {
         f.write_str(match self {
             Reason::NoSize => "size must be > 0",
@@ -38,7 +40,7 @@ impl fmt::Display for Reason {
             Reason::SetAboveSize => "associativity x line size > size: need >= 1 set",
             Reason::SizeNotWholeSets => "size is not divisible by associativity x line size",
             Reason::SetsNotPowerOfTwo => "the number of sets is not a power of 2",
-            Reason::NotNonInclusive => "inclusion must be NonInclusive",
+            Reason::InclusionUnsupported => "inclusion must be NonInclusive",
         })
     }
 }

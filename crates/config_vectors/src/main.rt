@@ -8,26 +8,27 @@
 //! `show`.
 #![tactic(auto)]
 
+ghost use Rattle.std.specs.Prelude.{◌≡◌, length};
+
 use byteorder::{ByteOrder, LittleEndian};
 use config::CacheConfig;
-use std::io;
+use replay::Stdout;
+use std::fmt;
+use std::fmt::Write;
 
-// The longest list: 32,768 bytes.
-const MOST: u32 = 512;
-
-fn main(rt: HostRuntime) -> io::Result<()> {
-    let mut input = rt.reader();
-    for _ in 0..MOST {
-        let Some(record) = replay::next_record(&mut input) else {
-            break;
-        };
+fn main() {
+    let mut list = [0u8; 32768];
+    let len = io::read_full(0, &mut list);
+    for record in list[..len].chunks_exact(64) {
         let addr = LittleEndian::read_u32(&record[56..]);
-        show(&rt, config_of(&record), addr)?;
+        // Output that goes nowhere is no reason to stop.
+        let _ = show(config_of(record), addr);
     }
-    Ok(())
 }
 
-fn config_of(record: &[u8; 64]) -> CacheConfig {
+fn config_of(record: &[u8]) -> CacheConfig
+    requires { length record.now ≡ 64 }
+{
     CacheConfig {
         size: LittleEndian::read_u64(&record[..]),
         line_size: LittleEndian::read_u64(&record[8..]),
@@ -43,17 +44,24 @@ fn config_of(record: &[u8; 64]) -> CacheConfig {
     }
 }
 
-fn show(rt: &impl Print, c: CacheConfig, addr: u32) -> io::Result<()> {
+fn show(c: CacheConfig, addr: u32) -> fmt::Result {
+    let mut out = Stdout;
     if let Err(reason) = c.validate() {
-        return println!(rt; "{}", reason.number());
+        return writeln!(out, "{}", reason.number());
     }
-    print!(rt;
+    write!(
+        out,
         "0 {} {} {} ",
         c.num_sets(),
         c.offset_bits(),
         c.index_bits()
     )?;
-    print!(rt; "{} {} ", c.addr_tag(addr), c.addr_index(addr))?;
-    print!(rt; "{} {} ", c.addr_offset(addr), c.line_base(addr))?;
-    println!(rt; "{} {}", c.tag_search_cycles(), c.line_transfer_cycles())
+    write!(out, "{} {} ", c.addr_tag(addr), c.addr_index(addr))?;
+    write!(out, "{} {} ", c.addr_offset(addr), c.line_base(addr))?;
+    writeln!(
+        out,
+        "{} {}",
+        c.tag_search_cycles(),
+        c.line_transfer_cycles()
+    )
 }

@@ -1,5 +1,5 @@
 -- RAM as a list of bytes: how far a run of bytes reaches into it, and what a load and a store answer and leave.
-use Rattle.std.specs.Prelude.{ℕ, ◌+◌, ◌-◌, ◌/◌, ◌%◌, min, if◌then◌else◌, List, [], ◌∷◌, nat_lt, length, slice_index, Result, Ok, Err}
+use Rattle.std.specs.Prelude.{ℕ, ◌+◌, ◌-◌, ◌/◌, ◌%◌, min, if◌then◌else◌, List, [], ◌∷◌, ◌++◌, codes, decimal, nat_lt, length, slice_index, Result, Ok, Err}
 use Rattle.std.proofs.Math.Seq.{paste}
 use Rattle.ram.specs.declared.Refusal.{Refusal}
 use Rattle.ram.specs.declared.Refusal.TheVariants.{RamTooLong, Outside}
@@ -18,7 +18,7 @@ reach_of len addr n = min n (len - addr)
 abbrev pub bytes_of : ℕ → List ℕ
 bytes_of v = v % 256 ∷ v / 256 % 256 ∷ v / 65536 % 256 ∷ v / 16777216 % 256 ∷ []
 
--- ---- refusals by number and place
+-- ---- refusals by number and place, and as text
 
 abbrev pub number_of : Refusal → ℕ
 number_of RamTooLong = 22
@@ -27,6 +27,10 @@ number_of (Outside _) = 23
 abbrev pub place_of : Refusal → ℕ
 place_of RamTooLong = 0
 place_of (Outside addr) = addr
+
+abbrev pub text_of : Refusal → List ℕ
+text_of RamTooLong = codes "RAM is longer than 16777216 bytes"
+text_of (Outside addr) = codes "address " ++ decimal addr ++ codes " lies outside RAM"
 
 -- ---- a load
 

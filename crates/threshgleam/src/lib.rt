@@ -66,10 +66,7 @@ pub extern "C" fn tg_config_default() -> CacheConfig
 pub extern "C" fn tg_config_validate(c: CacheConfig) -> u8
     ensures { result ≡ reason_of c }
 {
-    match c.validate() {
-        Ok(()) => 0,
-        Err(reason) => reason.number(),
-    }
+    c.validate().err().map_or(0, |reason| reason.number())
 }
 
 #[unsafe(no_mangle)]
