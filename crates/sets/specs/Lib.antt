@@ -1,0 +1,4 @@
+pub mod Ways
+pub mod Order
+pub mod Policy
+pub mod Victim
