@@ -3,6 +3,8 @@
 //! is in numbers.
 #![tactic(auto)]
 
+mod set_rules;
+
 ghost use Rattle.std.specs.Prelude.{◌≡◌};
 ghost use Rattle.std.specs.Int.Count.{count_trailing_zeros};
 ghost use Rattle.ram.specs.Ram.{bytes_of, loaded, stored, storing};
