@@ -3,8 +3,11 @@
 mod config;
 mod ffi;
 mod ram;
+mod rand_state;
 mod rng;
 mod run;
+mod set_shapes;
+mod sets;
 mod shapes;
 mod vectors;
 
@@ -29,10 +32,16 @@ const PARTS: &[(&str, &str, fn(&Run) -> Outcome)] = &[
     ("config", "helpers", config::helpers),
     ("config", "cycles", config::cycles),
     ("config", "limits", config::limits),
+    ("sets", "fresh", sets::fresh),
+    ("sets", "from fresh", sets::from_fresh),
+    ("sets", "from hand-made", sets::from_made),
+    ("sets", "single", sets::single),
+    ("sets", "refused", sets::refused),
 ];
 
 /// The areas with fixed lists of the Rust's answers.
-const VECTORS: &[(&str, fn() -> Vectors)] = &[("ram", vectors::ram), ("config", vectors::config)];
+const VECTORS: &[(&str, fn() -> Vectors)] =
+    &[("ram", vectors::ram), ("config", vectors::config), ("sets", vectors::sets)];
 
 fn main() -> ExitCode {
     let args: Vec<String> = env::args().skip(1).collect();

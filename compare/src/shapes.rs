@@ -3,7 +3,7 @@
 use crate::rng::Rng;
 use oracle::falcon::cache::{CacheConfig, InclusionPolicy, ReplacementPolicy, WriteAllocPolicy, WritePolicy};
 
-const REPLACEMENTS: [ReplacementPolicy; 6] = [
+pub const REPLACEMENTS: [ReplacementPolicy; 6] = [
     ReplacementPolicy::Lru,
     ReplacementPolicy::Mru,
     ReplacementPolicy::Fifo,

@@ -3,8 +3,10 @@
 use crate::config::{numbers, reason, HELPERS};
 use crate::ram::{ram_of, Call, Kind, KINDS};
 use crate::rng::Rng;
-use crate::shapes::{self, Shape, INCLUSIONS};
-use oracle::falcon::cache::CacheConfig;
+use crate::set_shapes;
+use crate::sets::{Answer, Op, PortSet};
+use crate::shapes::{self, Shape, INCLUSIONS, MOST_WAYS, REPLACEMENTS};
+use oracle::falcon::cache::{CacheConfig, CacheSet, ReplacementPolicy};
 use std::{fs, io, path::Path};
 
 /// Always the same lists.
@@ -156,4 +158,88 @@ fn config_record(all: &mut Vectors, c: &CacheConfig, addr: u32) {
     let shown = if reason == 0 { &HELPERS[..] } else { &[] };
     let helped = shown.iter().map(|h| (h.rust)(c, addr));
     all.record(&input, [u64::from(reason)].into_iter().chain(helped));
+}
+
+/// Under each policy for each number of ways a victim of a full set and another operation; then lines alike at the
+/// highest frequencies, and lookups among lines with equal tags.
+pub fn sets() -> Vectors {
+    let mut all = Vectors::default();
+    let mut rng = Rng::new(SEED);
+    for policy in REPLACEMENTS {
+        for ways in 1..=MOST_WAYS as usize {
+            let (hand, way) = (rng.below(ways as u64) as usize, rng.below(ways as u64) as usize);
+            set_record(&mut all, policy, Op::FindVictim, set_shapes::full(&mut rng, ways, hand));
+            let ops = [Op::Touch(way), Op::Lookup(set_shapes::tag(&mut rng)), Op::Install(way, 0), Op::FindVictim];
+            let op = ops[(ways + policy as usize) % 4];
+            set_record(&mut all, policy, op, set_shapes::any(&mut rng, ways, hand));
+        }
+    }
+    for ways in [1, 2, MOST_WAYS as usize] {
+        for freq in [u64::MAX - 1, u64::MAX] {
+            let mut record = |policy, op| set_record(&mut all, policy, op, set_shapes::alike(&mut rng, ways, freq));
+            record(ReplacementPolicy::Lfu, Op::Touch(ways - 1));
+            record(ReplacementPolicy::Lfu, Op::FindVictim);
+            record(ReplacementPolicy::Clock, Op::FindVictim);
+        }
+    }
+    for ways in 2..=MOST_WAYS as usize {
+        let tag = set_shapes::tag(&mut rng);
+        let policy = rng.pick(&REPLACEMENTS);
+        set_record(&mut all, policy, Op::Lookup(tag), set_shapes::twins(&mut rng, ways, tag));
+    }
+    all
+}
+
+/// The operation, and the set before it, in 384 bytes; then what the operation answers and moves.
+fn set_record(all: &mut Vectors, policy: ReplacementPolicy, op: Op, mut rust: CacheSet) {
+    let before = PortSet::of(&rust);
+    let answer = op.in_rust(policy, &mut rust);
+    all.record(&[&set_bytes(policy, op, &before)], set_answer(op, answer, &PortSet::of(&rust)));
+}
+
+/// Operation, policy, ways, way; tag, random state; hand, three zeros; both orders; tags, valid and reference bytes,
+/// frequencies, zeros.
+fn set_bytes(policy: ReplacementPolicy, op: Op, given: &PortSet) -> Vec<u8> {
+    let (kind, way, tag) = match op {
+        Op::Lookup(tag) => (0, 0, tag),
+        Op::FindVictim => (1, 0, 0),
+        Op::Touch(way) => (2, way, 0),
+        Op::Install(way, tag) => (3, way, tag),
+        _ => unreachable!("no operation of the vectors: {op:?}"),
+    };
+    let set = &given.set;
+    let input: [&[u8]; 10] = [
+        &[kind, policy as u8, given.ways as u8, way as u8],
+        &tag.to_le_bytes(),
+        &set.rand_state.to_le_bytes(),
+        &[set.clock_hand, 0, 0, 0],
+        &set.lru_order,
+        &set.fifo_order,
+        &given.tags.map(u32::to_le_bytes).concat(),
+        &given.valid.map(u8::from),
+        &given.ref_bits.map(u8::from),
+        &given.freq.map(u64::to_le_bytes).concat(),
+    ];
+    let mut bytes = input.concat();
+    bytes.resize(384, 0);
+    bytes
+}
+
+/// Of a lookup whether and where; of a victim its way, the hand, the random state, both orders and the bits; else both
+/// orders and the line's marks.
+fn set_answer(op: Op, answer: Answer, after: &PortSet) -> Vec<u64> {
+    let (ways, set) = (after.ways, &after.set);
+    let orders = [&set.lru_order[..ways], &set.fifo_order[..ways]].concat().into_iter().map(u64::from);
+    let bits = after.ref_bits[..ways].iter().map(|&bit| u64::from(bit));
+    match (op, answer) {
+        (_, Answer::Found(found)) => vec![found.found.into(), found.way as u64],
+        (_, Answer::Victim { way, .. }) => {
+            let first = [way as u64, set.clock_hand.into(), set.rand_state.into()];
+            first.into_iter().chain(orders).chain(bits).collect()
+        }
+        (Op::Touch(way) | Op::Install(way, _), Answer::Nothing) => {
+            orders.chain([after.freq[way], after.ref_bits[way].into()]).collect()
+        }
+        _ => unreachable!("no operation of the vectors: {op:?}"),
+    }
 }
