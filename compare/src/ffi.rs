@@ -71,9 +71,9 @@ pub struct Chosen {
     pub set: CacheSet,
 }
 
-/// Declares each function and its wrapper from one line: the wrapper's name, the symbol, the first arguments if there are
-/// any, the lent slices in brackets (which cross as pointer and length) and the other arguments. Every slice is lent to be
-/// written, so that a write where none belongs is seen.
+/// Declares each function and its wrapper from one line: the wrapper's name, the symbol, the first arguments if there
+/// are any, the lent slices in brackets (which cross as pointer and length) and the other arguments. Every slice is
+/// lent to be written, so that a write where none belongs is seen.
 macro_rules! functions {
     ($($(#[$doc:meta])* $name:ident = $symbol:ident $(($($first:ident: $first_kind:ty),*))?
         [$($lent:ident: $of:ty),*]($($arg:ident: $kind:ty),*) -> $out:ty;)*) => {
