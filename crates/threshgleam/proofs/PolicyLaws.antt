@@ -1,6 +1,6 @@
 -- The policy of a number, as `TryFrom` finds it.
 use Rattle.std.proofs.Common.{◌≡◌, ℕ, ◌<◌, false, eqb, ne_eqb, lit<, refl, arith}
-use Rattle.std.specs.Prelude.{Result, Ok, Err, Option, Some, None}
+use Rattle.std.specs.Prelude.{Result, Ok, Err}
 use Rattle.config.specs.Policies.{Names, replacement_number}
 use Rattle.config.specs.Numbers.{clock}
 use Rattle.std.specs.Result.{result_ok}

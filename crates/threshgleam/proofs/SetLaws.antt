@@ -1,5 +1,5 @@
 -- What a set that fits has.
-use Rattle.std.proofs.Common.{◌≡◌, ℕ, ◌<◌, Bool, true, false, List, length, arith}
+use Rattle.std.proofs.Common.{◌≡◌, ℕ, ◌<◌, Bool, true, List, length, arith}
 use Rattle.sets.specs.Policy.{is_well_formed}
 use Rattle.sets.specs.declared.set.CacheSet.{CacheSet}
 use Rattle.threshgleam.specs.SetRules.{set_fits}
