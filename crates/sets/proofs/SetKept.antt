@@ -15,12 +15,12 @@ use Rattle.sets.specs.Victim.{Choice, Sweep, sweep, has_freq, least, lfu_of, ran
 use Rattle.sets.proofs.OrderKept.{to_front_keeps}
 
 -- what `is_well_formed` tests, part by part
-record Parts (set : CacheSet) (ways : ℕ) : Type 0 where
+pub record Parts (set : CacheSet) (ways : ℕ) : Type 0 where
   pub lru : is_order ways set.lru_order ≡ true
   pub fifo : is_order ways set.fifo_order ≡ true
   pub hand : set.clock_hand < ways
 
-parts : (set : CacheSet) (ways : ℕ) → is_well_formed set ways ≡ true → Parts set ways
+pub parts : (set : CacheSet) (ways : ℕ) → is_well_formed set ways ≡ true → Parts set ways
 unfolding is_well_formed
 parts set ways formed =
     let orders = and_parts (is_order ways set.lru_order && is_order ways set.fifo_order) (nat_lt set.clock_hand ways) formed in
@@ -127,10 +127,10 @@ sweep_below ways (suc looks) hand bits e l =
 
 -- ---- the victim
 
-abbrev Kept : ℕ → Choice → Type 0
+abbrev pub Kept : ℕ → Choice → Type 0
 Kept ways choice = (choice.victim.way < ways) × Parts choice.victim.set ways
 
-chosen_kept :
+pub chosen_kept :
     (set : CacheSet) (policy : ReplacementPolicy) (freq : List ℕ) (bits : List Bool)
     → 0 < length freq
     → length bits ≡ length freq

@@ -8,7 +8,7 @@ mod order;
 mod set;
 mod victim;
 
-ghost use Rattle.std.specs.Prelude.{◌≡◌};
+ghost use Rattle.std.specs.Prelude.{◌≡◌, ◌<◌, length, IfSome};
 ghost use Rattle.sets.specs.Ways.{lookup_of, free_of};
 
 pub use order::{fresh_order, is_order, load_order, store_order, to_front};
@@ -18,7 +18,8 @@ pub use victim::Victim;
 /// A hit: the lowest valid way with the tag.
 #[tactic(auto, unfolding(crate::specs::Ways::lookup_of))]
 pub fn lookup(tags: &[u32], valid: &[bool], tag: u32) -> Option<usize>
-    ensures { result ≡ lookup_of tags.now valid.now tag }
+    ensures way { result ≡ lookup_of tags.now valid.now tag }
+    ensures below { IfSome result (λ way. way < length valid.now) }
 {
     valid
         .iter()

@@ -1,4 +1,5 @@
-ghost use Rattle.std.specs.Prelude.{◌≡◌, ◌+◌, ◌*◌, ◌%◌, ◌^◌, ◌<◌, ◌≤◌, length, find, reverse};
+ghost use Rattle.std.specs.Prelude.{true, ◌≡◌, ◌+◌, ◌*◌, ◌%◌, ◌^◌, ◌<◌, ◌≤◌, length, find, reverse};
+ghost use Rattle.sets.specs.Policy.{is_well_formed};
 ghost use Rattle.sets.specs.Victim.{
   random_step,
   least,
@@ -148,7 +149,10 @@ impl CacheSet {
         requires ways { (0 < length freq.now) × (length freq.now ≤ 16) }
         requires hand { self.clock_hand < length ref_bits.old }
         requires lines { length ref_bits.old ≡ length freq.now }
-        ensures { with_bits result ref_bits.new ≡ victim_of self policy valid.now freq.now ref_bits.old }
+        ensures choice { with_bits result ref_bits.new ≡ victim_of self policy valid.now freq.now ref_bits.old }
+
+        // Of a well-formed set it is one of the ways.
+        ensures below { is_well_formed self (length freq.now) ≡ true → length valid.now ≡ length freq.now → result.way < length freq.now }
     {
         match free_way(valid) {
             Some(way) => Victim { way, set: self },

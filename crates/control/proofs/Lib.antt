@@ -1,0 +1,4 @@
+-- Laws that several proofs cite.
+pub mod Bases
+pub mod Reach
+pub mod Sets

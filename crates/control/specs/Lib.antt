@@ -1,0 +1,5 @@
+pub mod Stats
+pub mod Geometry
+pub mod Mark
+pub mod Plan
+pub mod Access

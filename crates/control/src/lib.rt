@@ -1,0 +1,19 @@
+//! What every access decides on the marks of one set: control, which is given no data byte.
+//!
+//! An access is answered by a `Step`: the plan of the bytes that move, what is added to the counters,
+//! and what the access leaves in one line's marks and in its set. RAM is only ever asked for its length.
+#![tactic(auto)]
+
+mod access;
+mod allocate;
+mod geometry;
+mod mark;
+mod plan;
+mod policy;
+mod stats;
+
+pub use access::serve;
+pub use geometry::Geometry;
+pub use mark::{Lines, Mark};
+pub use plan::{Access, Kind, Plan, Step};
+pub use stats::CacheStats;
