@@ -2,3 +2,4 @@
 pub mod Bases
 pub mod Reach
 pub mod Sets
+pub mod Valid

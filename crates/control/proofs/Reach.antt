@@ -1,5 +1,5 @@
 -- How far bytes reach into RAM.
-use Rattle.std.proofs.Common.{ℕ, ◌+◌, ◌-◌, ◌<◌, ◌≤◌, min, arith}
+use Rattle.std.proofs.Common.{ℕ, ◌+◌, ◌<◌, ◌≤◌, arith}
 use Rattle.ram.specs.Ram.{reach_of}
 
 pub reach_le : (len addr n : ℕ) → reach_of len addr n ≤ n

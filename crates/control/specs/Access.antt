@@ -1,5 +1,5 @@
 -- What one access comes to. Read it from the end: `accessed` is the whole rule.
-use Rattle.std.specs.Prelude.{ℕ, ◌+◌, ◌%◌, ◌^◌, Bool, true, false, if◌then◌else◌, ◌&&◌, ◌||◌, List, Option, None, Some, ◌==◌}
+use Rattle.std.specs.Prelude.{ℕ, ◌+◌, ◌%◌, ◌^◌, Bool, true, false, if◌then◌else◌, ◌&&◌, ◌||◌, List, Option, None, Some}
 use Rattle.config.specs.declared.policy.WritePolicy.{WritePolicy}
 use Rattle.config.specs.declared.policy.WritePolicy.TheVariants.{WriteThrough, WriteBack}
 use Rattle.config.specs.declared.policy.WriteAllocPolicy.{WriteAllocPolicy}

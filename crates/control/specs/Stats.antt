@@ -1,5 +1,5 @@
 -- The eight counters, which wrap past the top.
-use Rattle.std.specs.Prelude.{ℕ, ◌+◌, ◌%◌, ◌^◌}
+use Rattle.std.specs.Prelude.{◌+◌, ◌%◌, ◌^◌}
 use Rattle.control.specs.declared.stats.CacheStats.{CacheStats}
 
 abbrev pub nothing : CacheStats

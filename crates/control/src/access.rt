@@ -19,7 +19,8 @@ use sets::CacheSet;
 #[tactic(auto, unfolding(crate::specs::Access::hit_step))]
 fn hit(g: Geometry, access: Access, way: usize, mark: Mark, set: CacheSet) -> Step
     requires { way < 16 }
-    ensures { result ≡ hit_step g access way mark set }
+    ensures step { result ≡ hit_step g access way mark set }
+    ensures same { result.way ≡ way }
 {
     Step {
         plan: Plan {
@@ -42,7 +43,8 @@ fn hit(g: Geometry, access: Access, way: usize, mark: Mark, set: CacheSet) -> St
 // A store that RAM refuses before the level is asked.
 #[tactic(auto, unfolding(crate::specs::Access::refused_store))]
 fn refused_store(access: Access, ram_len: usize, place: u32, mark: Mark, set: CacheSet) -> Step
-    ensures { result ≡ refused_store access ram_len place mark set }
+    ensures step { result ≡ refused_store access ram_len place mark set }
+    ensures same { result.way ≡ 0 }
 {
     Step {
         plan: Plan {
@@ -61,7 +63,8 @@ fn refused_store(access: Access, ram_len: usize, place: u32, mark: Mark, set: Ca
 #[tactic(auto, unfolding(crate::specs::Access::past_step))]
 fn past(g: Geometry, access: Access, ram_len: usize, mark: Mark, set: CacheSet) -> Step
     requires { ram_len ≤ 16777216 }
-    ensures { result ≡ past_step g access ram_len mark set }
+    ensures step { result ≡ past_step g access ram_len mark set }
+    ensures same { result.way ≡ 0 }
 {
     let refused = outside(ram_len, access.addr, access.width);
     let mut late = CacheStats::default();
@@ -99,7 +102,8 @@ pub fn serve(
     requires freq { length lines.freq.now ≡ g.ways }
     requires bits { length ref_bits.old ≡ g.ways }
     requires formed { is_well_formed set g.ways ≡ true }
-    ensures { stepped result ref_bits.new ≡ accessed g access ram_len set (marks lines.entry.tags.now lines.entry.valid.now lines.entry.dirty.now lines.entry.freq.now ref_bits.old) }
+    ensures step { stepped result ref_bits.new ≡ accessed g access ram_len set (marks lines.entry.tags.now lines.entry.valid.now lines.entry.dirty.now lines.entry.freq.now ref_bits.old) }
+    ensures among { result.way < g.ways }
 {
     if let Some(place) = outside(ram_len, access.addr, g.through(access)) {
         return refused_store(access, ram_len, place, lines.mark(ref_bits, 0), set);

@@ -102,7 +102,8 @@ pub fn allocate(
     requires fits { Fits g }
     requires ram { ram_len ≤ 16777216 }
     requires way { way < 16 }
-    ensures { result ≡ alloc_step g access ram_len way mark set }
+    ensures step { result ≡ alloc_step g access ram_len way mark set }
+    ensures same { result.way ≡ way }
 {
     let evicted = evict(g, access.kind, mark, g.set(access.addr), ram_len);
     let stats = alloc_stats(g, access, mark, evicted);

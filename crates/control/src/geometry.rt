@@ -1,7 +1,8 @@
-ghost use Rattle.std.specs.Prelude.{◌≡◌};
-ghost use Rattle.control.specs.Geometry.{Fits, tag_of, set_of, offset_of, base_of, line_base};
+ghost use Rattle.std.specs.Prelude.{◌≡◌, ◌&&◌, is_some, IfSome};
+ghost use Rattle.config.specs.Config.{is_valid, within_limits};
+ghost use Rattle.control.specs.Geometry.{Fits, Describes, tag_of, set_of, offset_of, base_of, line_base};
 
-use config::{ReplacementPolicy, WriteAllocPolicy, WritePolicy};
+use config::{CacheConfig, ReplacementPolicy, WriteAllocPolicy, WritePolicy};
 
 /// What an access asks of a configuration, worked out once.
 #[derive(Clone, Copy, Debug, PartialEq, Eq, Hash)]
@@ -21,6 +22,29 @@ pub struct Geometry {
 }
 
 impl Geometry {
+    /// Of a configuration that is valid and within the limits, and of no other.
+    #[tactic(auto, using(crate::proofs::Valid::some_line, crate::proofs::Valid::some_ways, crate::proofs::Valid::some_sets, crate::proofs::Valid::short_line, crate::proofs::Valid::few_ways, crate::proofs::Valid::few_sets, crate::proofs::Valid::a_replacement, crate::proofs::Valid::a_write_policy, crate::proofs::Valid::a_write_alloc, crate::proofs::Valid::named))]
+    pub fn of(c: CacheConfig) -> Option<Geometry>
+        ensures some { is_some result ≡ (is_valid c && within_limits c) }
+        ensures fits { IfSome result Fits }
+        ensures describes { IfSome result (λ g. Describes g c) }
+    {
+        if !c.is_valid_config() || !c.within_limits() {
+            return None;
+        }
+        Some(Geometry {
+            line_size: c.line_size as u32,
+            sets: c.num_sets() as u32,
+            ways: c.associativity as u32,
+            replacement: ReplacementPolicy::try_from(c.replacement).unwrap(),
+            write_policy: WritePolicy::try_from(c.write_policy).unwrap(),
+            write_alloc: WriteAllocPolicy::try_from(c.write_alloc).unwrap(),
+            search: c.tag_search_cycles(),
+            penalty: c.miss_penalty,
+            transfer: c.line_transfer_cycles(),
+        })
+    }
+
     /// The tag of the line that the address lies in.
     pub fn tag(self, addr: u32) -> u32
         requires { Fits self }

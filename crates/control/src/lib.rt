@@ -8,12 +8,16 @@ mod access;
 mod allocate;
 mod geometry;
 mod mark;
+mod marks;
 mod plan;
 mod policy;
 mod stats;
+mod sweep;
 
 pub use access::serve;
 pub use geometry::Geometry;
 pub use mark::{Lines, Mark};
+pub use marks::{Marks, Served};
 pub use plan::{Access, Kind, Plan, Step};
 pub use stats::CacheStats;
+pub use sweep::{LineStep, Sweep};
