@@ -1,6 +1,8 @@
 //! Compares the port, linked as a static library, with the unchanged Rust.
 
 mod config;
+mod control;
+mod control_shapes;
 mod ffi;
 mod ram;
 mod rand_state;
@@ -41,7 +43,7 @@ const PARTS: &[(&str, &str, fn(&Run) -> Outcome)] = &[
 
 /// The areas with fixed lists of the Rust's answers.
 const VECTORS: &[(&str, fn() -> Vectors)] =
-    &[("ram", vectors::ram), ("config", vectors::config), ("sets", vectors::sets)];
+    &[("ram", vectors::ram), ("config", vectors::config), ("sets", vectors::sets), ("control", vectors::control)];
 
 fn main() -> ExitCode {
     let args: Vec<String> = env::args().skip(1).collect();

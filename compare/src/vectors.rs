@@ -1,6 +1,8 @@
 //! Fixed lists of inputs with the Rust's answers, for a replay with no Rust at hand. Nothing here asks the port.
 
 use crate::config::{numbers, reason, HELPERS};
+use crate::control::{self, Access, Level};
+use crate::control_shapes::{self, Opening};
 use crate::ram::{ram_of, Call, Kind, KINDS};
 use crate::rng::Rng;
 use crate::set_shapes;
@@ -144,20 +146,24 @@ fn refused(rng: &mut Rng, wanted: u8) -> CacheConfig {
 
 /// The configuration's 56 bytes, the address, four zeros; then the reason, and after a 0 all nine helpers.
 fn config_record(all: &mut Vectors, c: &CacheConfig, addr: u32) {
-    let n = numbers(c);
-    let wide = [n.size, n.line_size, n.associativity, n.hit_latency, n.miss_penalty, n.assoc_penalty];
-    let input: [&[u8]; 5] = [
-        &wide.map(u64::to_le_bytes).concat(),
-        &n.transfer_width.to_le_bytes(),
-        &[n.replacement, n.write_policy, n.write_alloc, n.inclusion],
-        &addr.to_le_bytes(),
-        &[0; 4],
-    ];
+    let input: [&[u8]; 3] = [&config_bytes(c), &addr.to_le_bytes(), &[0; 4]];
     let reason = reason(c);
     // An invalid configuration has no helpers: the Rust would divide by 0.
     let shown = if reason == 0 { &HELPERS[..] } else { &[] };
     let helped = shown.iter().map(|h| (h.rust)(c, addr));
     all.record(&input, [u64::from(reason)].into_iter().chain(helped));
+}
+
+/// The wide fields, the transfer width, the policies.
+fn config_bytes(c: &CacheConfig) -> Vec<u8> {
+    let n = numbers(c);
+    let wide = [n.size, n.line_size, n.associativity, n.hit_latency, n.miss_penalty, n.assoc_penalty];
+    let input: [&[u8]; 3] = [
+        &wide.map(u64::to_le_bytes).concat(),
+        &n.transfer_width.to_le_bytes(),
+        &[n.replacement, n.write_policy, n.write_alloc, n.inclusion],
+    ];
+    input.concat()
 }
 
 /// Under each policy for each number of ways a victim of a full set and another operation; then lines alike at the
@@ -242,4 +248,53 @@ fn set_answer(op: Op, answer: Answer, after: &PortSet) -> Vec<u64> {
         }
         _ => unreachable!("no operation of the vectors: {op:?}"),
     }
+}
+
+/// Levels under every policy, each filled in one set where then more lines meet than it has ways.
+pub fn control() -> Vectors {
+    let mut all = Vectors::default();
+    let mut rng = Rng::new(SEED);
+    for opening in control_shapes::openings(&mut rng) {
+        let mut level = Level::open(opening.config.clone(), opening.ram_len);
+        all.record(&[&opening_bytes(&opening)], level.extent());
+        for number in 0..opening.records() {
+            let op = opening.op(&mut rng, &level, number);
+            all.record(&[&control_bytes(op)], level.answer(op));
+        }
+    }
+    all
+}
+
+/// The operation that each record of a level tells at byte 60.
+const OPEN: u8 = 0;
+const ACCESS: u8 = 1;
+const FLUSH: u8 = 2;
+const WRITE_BACK: u8 = 3;
+const INVALIDATE: u8 = 4;
+const INVALIDATE_LINE: u8 = 5;
+
+/// The configuration's 56 bytes and RAM's length; then sets and ways.
+fn opening_bytes(opening: &Opening) -> Vec<u8> {
+    operation(OPEN, &[&config_bytes(&opening.config), &opening.ram_len.to_le_bytes()])
+}
+
+/// Kind, width, two zeros, address, value; then number, place, the counters, the line's way from 1 on and dirty mark.
+fn control_bytes(op: control::Op) -> Vec<u8> {
+    match op {
+        control::Op::Access(Access { kind, width, addr, value }) => {
+            operation(ACCESS, &[&[kind as u8, width, 0, 0], &addr.to_le_bytes(), &value.to_le_bytes()])
+        }
+        control::Op::Flush => operation(FLUSH, &[]),
+        control::Op::WriteBack => operation(WRITE_BACK, &[]),
+        control::Op::Invalidate => operation(INVALIDATE, &[]),
+        control::Op::InvalidateLine(addr) => operation(INVALIDATE_LINE, &[&[0; 4], &addr.to_le_bytes()]),
+    }
+}
+
+/// What the operation is told, zeros up to byte 60, its number, three zeros.
+fn operation(number: u8, told: &[&[u8]]) -> Vec<u8> {
+    let mut bytes = told.concat();
+    bytes.resize(60, 0);
+    bytes.extend([number, 0, 0, 0]);
+    bytes
 }

@@ -3,3 +3,8 @@ pub mod Bases
 pub mod Reach
 pub mod Sets
 pub mod Valid
+pub mod Opening
+pub mod Cases
+pub mod AccessCases
+pub mod PlanInside
+pub mod AccessKept

@@ -30,7 +30,7 @@ pub few_ways : (c : CacheConfig) → within_limits c ≡ true → c.associativit
 unfolding within_limits geometry_within
 few_ways c e = grind (arith, e)
 
-few_lines : (c : CacheConfig) → within_limits c ≡ true → num_sets c * c.associativity ≤ 256
+pub few_lines : (c : CacheConfig) → within_limits c ≡ true → num_sets c * c.associativity ≤ 256
 unfolding within_limits geometry_within
 few_lines c e = grind (arith, e)
 

@@ -5,3 +5,6 @@ pub mod Plan
 pub mod Access
 pub mod Sweep
 pub mod Marks
+pub mod Lines
+pub mod Formed
+pub mod Split

@@ -1,4 +1,4 @@
-ghost use Rattle.std.specs.Prelude.{◌≡◌, ◌&&◌, is_some, IfSome};
+ghost use Rattle.std.specs.Prelude.{◌≡◌, ◌*◌, ◌≤◌, ◌&&◌, is_some, IfSome};
 ghost use Rattle.config.specs.Config.{is_valid, within_limits};
 ghost use Rattle.control.specs.Geometry.{Fits, Describes, tag_of, set_of, offset_of, base_of, line_base};
 
@@ -23,11 +23,12 @@ pub struct Geometry {
 
 impl Geometry {
     /// Of a configuration that is valid and within the limits, and of no other.
-    #[tactic(auto, using(crate::proofs::Valid::some_line, crate::proofs::Valid::some_ways, crate::proofs::Valid::some_sets, crate::proofs::Valid::short_line, crate::proofs::Valid::few_ways, crate::proofs::Valid::few_sets, crate::proofs::Valid::a_replacement, crate::proofs::Valid::a_write_policy, crate::proofs::Valid::a_write_alloc, crate::proofs::Valid::named))]
+    #[tactic(auto, using(crate::proofs::Valid::some_line, crate::proofs::Valid::some_ways, crate::proofs::Valid::some_sets, crate::proofs::Valid::short_line, crate::proofs::Valid::few_ways, crate::proofs::Valid::few_sets, crate::proofs::Valid::few_lines, crate::proofs::Valid::a_replacement, crate::proofs::Valid::a_write_policy, crate::proofs::Valid::a_write_alloc, crate::proofs::Valid::named))]
     pub fn of(c: CacheConfig) -> Option<Geometry>
         ensures some { is_some result ≡ (is_valid c && within_limits c) }
         ensures fits { IfSome result Fits }
         ensures describes { IfSome result (λ g. Describes g c) }
+        ensures lines { IfSome result (λ g. g.sets * g.ways ≤ 256) }
     {
         if !c.is_valid_config() || !c.within_limits() {
             return None;

@@ -6,11 +6,14 @@
 
 mod access;
 mod allocate;
+mod formed;
 mod geometry;
+mod lines;
 mod mark;
 mod marks;
 mod plan;
 mod policy;
+mod split;
 mod stats;
 mod sweep;
 
@@ -19,5 +22,6 @@ pub use geometry::Geometry;
 pub use mark::{Lines, Mark};
 pub use marks::{Marks, Served};
 pub use plan::{Access, Kind, Plan, Step};
+pub use split::Request;
 pub use stats::CacheStats;
 pub use sweep::{LineStep, Sweep};

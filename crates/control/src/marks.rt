@@ -1,5 +1,5 @@
 ghost use Rattle.std.specs.Prelude.{◌≡◌, ◌+◌, ◌*◌, ◌<◌, ◌≤◌, true, length};
-ghost use Rattle.sets.specs.Policy.{is_well_formed};
+ghost use Rattle.control.specs.Formed.{is_set_formed};
 ghost use Rattle.control.specs.Geometry.{Fits, set_of};
 ghost use Rattle.control.specs.Marks.{set_at, committed, served, stepped_marks};
 
@@ -31,9 +31,9 @@ pub struct Served {
 }
 
 impl Marks {
-    // A set's orders, hand and state, taken out.
+    /// A set's orders, hand and state, taken out.
     #[tactic(auto, unfolding(crate::specs::Marks::set_at))]
-    fn set(&self, set: usize, base: usize, ways: usize) -> CacheSet
+    pub fn set(&self, set: usize, base: usize, ways: usize) -> CacheSet
         requires set { set < 256 }
         requires lines { (ways ≤ 16) × (base + ways ≤ 256) }
         ensures { result ≡ set_at self.now set base ways }
@@ -67,12 +67,12 @@ impl Marks {
     }
 
     /// One access on a level's marks.
-    #[tactic(auto, unfolding(crate::specs::Marks::stepped_marks))]
+    #[tactic(auto, unfolding(crate::specs::Marks::stepped_marks, crate::specs::Formed::is_set_formed))]
     pub fn step(&mut self, g: Geometry, access: Access, ram_len: usize) -> Served
         requires fits { Fits g }
         requires lines { g.sets * g.ways ≤ 256 }
         requires ram { ram_len ≤ 16777216 }
-        requires formed { is_well_formed (set_at self.old (set_of g access.addr) (set_of g access.addr * g.ways) g.ways) g.ways ≡ true }
+        requires formed { is_set_formed g self.old (set_of g access.addr) ≡ true }
         ensures { served result self.new ≡ stepped_marks g access ram_len self.old }
     {
         let ways = g.ways as usize;
