@@ -1,17 +1,16 @@
 -- The cases to check by hand for an access, computed over the definitions.
-use Rattle.std.proofs.Common.{◌≡◌, ℕ, Bool, false, List, [], ◌∷◌, refl}
+use Rattle.std.proofs.Common.{◌≡◌, false, [], ◌∷◌, refl}
 use Rattle.std.specs.Prelude.{Some}
 use Rattle.config.specs.declared.policy.ReplacementPolicy.TheVariants.{Lru}
 use Rattle.config.specs.declared.policy.WritePolicy.TheVariants.{WriteBack}
 use Rattle.config.specs.declared.policy.WriteAllocPolicy.TheVariants.{WriteAllocate}
 use Rattle.ram.specs.Ram.{reach_of}
 use Rattle.sets.specs.Policy.{fresh}
-use Rattle.sets.specs.Order.{fresh_order}
 use Rattle.sets.specs.Ways.{lookup_of, free_of}
 use Rattle.sets.specs.Victim.{victim_of}
 use Rattle.control.specs.declared.geometry.Geometry.{Geometry}
 use Rattle.control.specs.declared.plan.Kind.TheVariants.{Load, Store}
-use Rattle.control.specs.Access.{accessed, alloc_step, alloc_stats, miss_stats, store_stats, evicted_of, marks}
+use Rattle.control.specs.Access.{accessed, alloc_step, miss_stats, store_stats, evicted_of, marks}
 use Rattle.control.specs.Plan.{outside_of}
 use Rattle.control.specs.Split.{pieces, piece_width}
 use Rattle.control.specs.Stats.{plus}

@@ -1,5 +1,5 @@
 -- One set more is opened.
-use Rattle.std.proofs.Common.{◌≡◌, ℕ, ◌+◌, ◌*◌, add-one, refl}
+use Rattle.std.proofs.Common.{◌≡◌, ℕ, ◌+◌, add-one, refl}
 use Rattle.control.specs.Lines.{opened, opened_set}
 use Rattle.control.specs.declared.marks.Marks.{Marks}
 

@@ -1,5 +1,5 @@
 -- A level's lines, one by one, and a fresh level's.
-use Rattle.std.specs.Prelude.{ℕ, zero, suc, ◌+◌, ◌*◌, ◌/◌, Bool, false, List, Option, None, Some, replicate, slice_index, slice_index_or, set}
+use Rattle.std.specs.Prelude.{ℕ, zero, suc, ◌+◌, ◌*◌, ◌/◌, false, Option, None, Some, replicate, set}
 use Rattle.std.proofs.Math.Seq.{paste}
 use Rattle.sets.specs.Order.{fresh_order}
 use Rattle.sets.specs.Ways.{lookup_of}
