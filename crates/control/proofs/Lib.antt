@@ -8,3 +8,4 @@ pub mod Cases
 pub mod AccessCases
 pub mod PlanInside
 pub mod AccessKept
+pub mod Named

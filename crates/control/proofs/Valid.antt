@@ -1,14 +1,9 @@
 -- What a valid configuration within the limits has.
-use Rattle.std.proofs.Common.{◌≡◌, ℕ, ◌*◌, ◌/◌, ◌<◌, ◌≤◌, true, refl, le-mul_of_pos_right, arith}
-use Rattle.std.specs.Prelude.{Result, Ok, Err}
-use Rattle.std.specs.Result.{IsOk}
+use Rattle.std.proofs.Common.{◌≡◌, ◌*◌, ◌/◌, ◌<◌, ◌≤◌, true, le-mul_of_pos_right, arith}
 use Rattle.std.specs.Int.Count.{count_trailing_zeros}
 use Rattle.std.proofs.lemmas.Nat.{pow_pos}
-use Rattle.config.specs.Config.{reason_of, reason_of_sets, reason_of_rest, is_valid, within_limits, geometry_within, policies_within, num_sets, set_bytes, power_of_two}
-use Rattle.config.specs.Numbers.{clock, write_back, no_write_allocate}
-use Rattle.config.specs.Policies.{Names}
+use Rattle.config.specs.Config.{reason_of, reason_of_sets, reason_of_rest, is_valid, within_limits, geometry_within, num_sets, set_bytes, power_of_two}
 use Rattle.config.specs.declared.CacheConfig.{CacheConfig}
-use Rattle.config.specs.declared.policy.UnknownPolicy.{UnknownPolicy}
 
 pub some_line : (c : CacheConfig) → is_valid c ≡ true → 0 < c.line_size
 unfolding is_valid reason_of
@@ -37,24 +32,3 @@ few_lines c e = grind (arith, e)
 pub few_sets : (c : CacheConfig) → is_valid c ≡ true → within_limits c ≡ true → num_sets c ≤ 256
 few_sets c valid within =
     omega (arith, few_lines c within, le-mul_of_pos_right (num_sets c) (some_ways c valid))
-
--- each policy number names a policy
-pub a_replacement : (c : CacheConfig) → within_limits c ≡ true → c.replacement ≤ clock
-unfolding within_limits policies_within
-a_replacement c e = grind (arith, e)
-
-pub a_write_policy : (c : CacheConfig) → within_limits c ≡ true → c.write_policy ≤ write_back
-unfolding within_limits policies_within
-a_write_policy c e = grind (arith, e)
-
-pub a_write_alloc : (c : CacheConfig) → within_limits c ≡ true → c.write_alloc ≤ no_write_allocate
-unfolding within_limits policies_within
-a_write_alloc c e = grind (arith, e)
-
-pub named :
-    {P : Type 0} (number_of : P → ℕ) (last number : ℕ) (answer : Result P UnknownPolicy)
-    → Names number_of last number answer
-    → number ≤ last
-    → IsOk answer
-named number_of last number (Ok policy) e l = refl
-named number_of last number (Err unknown) e l = absurd (omega (arith, e.1))

@@ -1,8 +1,14 @@
 -- Where an address falls.
-use Rattle.std.specs.Prelude.{◌≡◌, ℕ, ◌+◌, ◌-◌, ◌*◌, ◌/◌, ◌%◌, ◌^◌, ◌<◌, ◌≤◌}
+use Rattle.std.specs.Prelude.{ℕ, Option, None, Some, if◌then◌else◌, ◌==◌, ◌&&◌, ◌+◌, ◌-◌, ◌*◌, ◌/◌, ◌%◌, ◌^◌, ◌<◌, ◌≤◌}
 use Rattle.config.specs.declared.CacheConfig.{CacheConfig}
-use Rattle.config.specs.Config.{num_sets, search_cycles, transfer_cycles}
-use Rattle.config.specs.Policies.{replacement_number, write_number, write_alloc_number}
+use Rattle.config.specs.Config.{is_valid, within_limits, num_sets, search_cycles, transfer_cycles}
+use Rattle.config.specs.Numbers.{lru, mru, fifo, random, lfu, write_through, write_allocate}
+use Rattle.config.specs.declared.policy.ReplacementPolicy.{ReplacementPolicy}
+use Rattle.config.specs.declared.policy.ReplacementPolicy.TheVariants.{Lru, Mru, Fifo, Random, Lfu, Clock}
+use Rattle.config.specs.declared.policy.WritePolicy.{WritePolicy}
+use Rattle.config.specs.declared.policy.WritePolicy.TheVariants.{WriteThrough, WriteBack}
+use Rattle.config.specs.declared.policy.WriteAllocPolicy.{WriteAllocPolicy}
+use Rattle.config.specs.declared.policy.WriteAllocPolicy.TheVariants.{WriteAllocate, NoWriteAllocate}
 use Rattle.control.specs.declared.geometry.Geometry.{Geometry}
 
 -- what a valid configuration within the limits gives
@@ -14,17 +20,38 @@ pub record Fits (g : Geometry) : Type 0 where
   pub some_ways : 0 < g.ways
   pub few_ways : g.ways ≤ 16
 
+-- the policies that numbers within the limits name
+unfoldable pub replacement_by : ℕ → ReplacementPolicy
+replacement_by number =
+    if number == lru then Lru else
+    if number == mru then Mru else
+    if number == fifo then Fifo else
+    if number == random then Random else if number == lfu then Lfu else Clock
+
+unfoldable pub write_by : ℕ → WritePolicy
+write_by number = if number == write_through then WriteThrough else WriteBack
+
+unfoldable pub write_alloc_by : ℕ → WriteAllocPolicy
+write_alloc_by number = if number == write_allocate then WriteAllocate else NoWriteAllocate
+
 -- what a configuration gives
-pub record Describes (g : Geometry) (c : CacheConfig) : Type 0 where
-  pub line_size : g.line_size ≡ c.line_size
-  pub sets : g.sets ≡ num_sets c
-  pub ways : g.ways ≡ c.associativity
-  pub replacement : replacement_number g.replacement ≡ c.replacement
-  pub write_policy : write_number g.write_policy ≡ c.write_policy
-  pub write_alloc : write_alloc_number g.write_alloc ≡ c.write_alloc
-  pub search : g.search ≡ search_cycles c
-  pub penalty : g.penalty ≡ c.miss_penalty
-  pub transfer : g.transfer ≡ transfer_cycles c
+unfoldable pub geometry_by : CacheConfig → Geometry
+geometry_by c =
+    record {
+      line_size = c.line_size;
+      sets = num_sets c;
+      ways = c.associativity;
+      replacement = replacement_by c.replacement;
+      write_policy = write_by c.write_policy;
+      write_alloc = write_alloc_by c.write_alloc;
+      search = search_cycles c;
+      penalty = c.miss_penalty;
+      transfer = transfer_cycles c;
+    }
+
+-- a valid configuration within the limits has one, and no other has
+unfoldable pub geometry_of : CacheConfig → Option Geometry
+geometry_of c = if is_valid c && within_limits c then Some (geometry_by c) else None
 
 abbrev pub tag_of : Geometry → ℕ → ℕ
 tag_of g addr = addr / g.line_size / g.sets

@@ -1,6 +1,5 @@
-ghost use Rattle.std.specs.Prelude.{◌≡◌, ◌*◌, ◌≤◌, ◌&&◌, is_some, IfSome};
-ghost use Rattle.config.specs.Config.{is_valid, within_limits};
-ghost use Rattle.control.specs.Geometry.{Fits, Describes, tag_of, set_of, offset_of, base_of, line_base};
+ghost use Rattle.std.specs.Prelude.{◌≡◌, ◌*◌, ◌≤◌, IfSome};
+ghost use Rattle.control.specs.Geometry.{Fits, geometry_of, replacement_by, write_by, write_alloc_by, tag_of, set_of, offset_of, base_of, line_base};
 
 use config::{CacheConfig, ReplacementPolicy, WriteAllocPolicy, WritePolicy};
 
@@ -21,13 +20,34 @@ pub struct Geometry {
     pub transfer: u64,
 }
 
+// Past the last number that names one stands the last policy: a configuration within the limits has none.
+#[tactic(auto, using(crate::proofs::Named::replacement_named))]
+fn replacement_by(number: u8) -> ReplacementPolicy
+    ensures { result ≡ replacement_by number }
+{
+    ReplacementPolicy::try_from(number).unwrap_or(ReplacementPolicy::Clock)
+}
+
+#[tactic(auto, using(crate::proofs::Named::write_named))]
+fn write_by(number: u8) -> WritePolicy
+    ensures { result ≡ write_by number }
+{
+    WritePolicy::try_from(number).unwrap_or(WritePolicy::WriteBack)
+}
+
+#[tactic(auto, using(crate::proofs::Named::write_alloc_named))]
+fn write_alloc_by(number: u8) -> WriteAllocPolicy
+    ensures { result ≡ write_alloc_by number }
+{
+    WriteAllocPolicy::try_from(number).unwrap_or(WriteAllocPolicy::NoWriteAllocate)
+}
+
 impl Geometry {
     /// Of a configuration that is valid and within the limits, and of no other.
-    #[tactic(auto, using(crate::proofs::Valid::some_line, crate::proofs::Valid::some_ways, crate::proofs::Valid::some_sets, crate::proofs::Valid::short_line, crate::proofs::Valid::few_ways, crate::proofs::Valid::few_sets, crate::proofs::Valid::few_lines, crate::proofs::Valid::a_replacement, crate::proofs::Valid::a_write_policy, crate::proofs::Valid::a_write_alloc, crate::proofs::Valid::named))]
+    #[tactic(auto, unfolding(crate::specs::Geometry::geometry_of, crate::specs::Geometry::geometry_by), using(crate::proofs::Valid::some_line, crate::proofs::Valid::some_ways, crate::proofs::Valid::some_sets, crate::proofs::Valid::short_line, crate::proofs::Valid::few_ways, crate::proofs::Valid::few_sets, crate::proofs::Valid::few_lines))]
     pub fn of(c: CacheConfig) -> Option<Geometry>
-        ensures some { is_some result ≡ (is_valid c && within_limits c) }
+        ensures geometry { result ≡ geometry_of c }
         ensures fits { IfSome result Fits }
-        ensures describes { IfSome result (λ g. Describes g c) }
         ensures lines { IfSome result (λ g. g.sets * g.ways ≤ 256) }
     {
         if !c.is_valid_config() || !c.within_limits() {
@@ -37,9 +57,9 @@ impl Geometry {
             line_size: c.line_size as u32,
             sets: c.num_sets() as u32,
             ways: c.associativity as u32,
-            replacement: ReplacementPolicy::try_from(c.replacement).unwrap(),
-            write_policy: WritePolicy::try_from(c.write_policy).unwrap(),
-            write_alloc: WriteAllocPolicy::try_from(c.write_alloc).unwrap(),
+            replacement: replacement_by(c.replacement),
+            write_policy: write_by(c.write_policy),
+            write_alloc: write_alloc_by(c.write_alloc),
             search: c.tag_search_cycles(),
             penalty: c.miss_penalty,
             transfer: c.line_transfer_cycles(),
