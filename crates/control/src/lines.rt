@@ -1,6 +1,6 @@
 ghost use Rattle.std.specs.Prelude.{◌≡◌, ◌*◌, ◌<◌, ◌≤◌, IfSome};
 ghost use Rattle.control.specs.Geometry.{Fits};
-ghost use Rattle.control.specs.Lines.{line_mark, with_mark, located, swept_level, swept, without_line, fresh_marks};
+ghost use Rattle.control.specs.Lines.{line_mark, with_mark, located, swept_level, swept, without_line, blank, fresh_marks};
 
 use crate::{Geometry, LineStep, Mark, Marks, Sweep};
 use sets::{LineUse, fresh_order, store_order};
@@ -81,15 +81,11 @@ impl Marks {
         step
     }
 
-    /// Fresh marks: every line empty, orders as the ways count, and what stands past the last set 0.
-    #[tactic(auto, using(crate::proofs::Opening::one_more), unfolding(crate::specs::Lines::opened))]
-    pub fn fresh(g: Geometry) -> Marks
-        requires fits { Fits g }
-        requires lines { g.sets * g.ways ≤ 256 }
-        ensures { result ≡ fresh_marks g }
+    /// No marks at all: all 0.
+    pub fn blank() -> Marks
+        ensures { result ≡ blank }
     {
-        let ways = g.ways as usize;
-        let mut marks = Marks {
+        Marks {
             tags: [0; 256],
             valid: [false; 256],
             dirty: [false; 256],
@@ -99,7 +95,18 @@ impl Marks {
             fifo_order: [0; 256],
             clock_hand: [0; 256],
             rand_state: [0; 256],
-        };
+        }
+    }
+
+    /// Fresh marks: every line empty, orders as the ways count, and what stands past the last set 0.
+    #[tactic(auto, using(crate::proofs::Opening::one_more), unfolding(crate::specs::Lines::opened))]
+    pub fn fresh(g: Geometry) -> Marks
+        requires fits { Fits g }
+        requires lines { g.sets * g.ways ≤ 256 }
+        ensures { result ≡ fresh_marks g }
+    {
+        let ways = g.ways as usize;
+        let mut marks = Marks::blank();
         for set in 0..g.sets as usize {
             let order = fresh_order(ways);
             store_order(&mut marks.lru_order, set * ways, order, ways);
