@@ -9,3 +9,5 @@ pub mod AccessCases
 pub mod PlanInside
 pub mod AccessKept
 pub mod Named
+pub mod Room
+pub mod Ranges
