@@ -11,3 +11,6 @@ pub mod AccessKept
 pub mod Named
 pub mod Room
 pub mod Ranges
+pub mod Pasted
+pub mod OrdersLong
+pub mod LevelKept
