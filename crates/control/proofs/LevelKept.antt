@@ -272,7 +272,7 @@ whole_kept g a ram_len m level =
 
 -- ---- the other sets
 
-other_part :
+pub other_part :
     (flat order : List ℕ) (at base ways : ℕ)
     → at ≤ length flat
     → ways ≤ length order
@@ -324,7 +324,7 @@ same_order : (ways : ℕ) (xs ys : List ℕ) → take ways xs ≡ take ways ys �
 unfolding is_order
 same_order ways xs ys e = rw e refl
 
-own_order :
+pub own_order :
     (flat order : List ℕ) (base ways : ℕ)
     → base ≤ length flat
     → ways ≤ length order
@@ -334,7 +334,7 @@ own_order flat order base ways there enough =
     (ap (λ (xs : List ℕ). take ways (xs ++ replicate (16 - ways) 0)) (part_pasted flat base order ways there enough)
     ∙ take_at (take ways order) (replicate (16 - ways) 0) ways (length-take-le ways order enough))
 
-well_formed :
+pub well_formed :
     (held : CacheSet) (ways : ℕ)
     → is_order ways held.lru_order ≡ true
     → is_order ways held.fifo_order ≡ true

@@ -14,3 +14,4 @@ pub mod Ranges
 pub mod Pasted
 pub mod OrdersLong
 pub mod LevelKept
+pub mod FreshFormed
