@@ -1,5 +1,5 @@
 -- Opening a level.
-use Rattle.std.specs.Prelude.{ℕ, List, Option, None, Some, Result, Ok, Err, if◌then◌else◌, ◌==◌, length, replicate}
+use Rattle.std.specs.Prelude.{ℕ, List, Option, None, Some, Ok, Err, if◌then◌else◌, ◌==◌, length, replicate}
 use Rattle.config.specs.declared.CacheConfig.{CacheConfig}
 use Rattle.config.specs.declared.reason.Reason.{Reason}
 use Rattle.config.specs.declared.reason.Reason.TheVariants.{NoSize, LineTooShort, NoWays, LineNotPowerOfTwo, SetOverflows, SetAboveSize, SizeNotWholeSets, SetsNotPowerOfTwo, InclusionUnsupported}

@@ -1,5 +1,5 @@
 -- The reason that `validate` gives is the one that its number names.
-use Rattle.std.proofs.Common.{◌≡◌, ◌∙◌, ap, sym}
+use Rattle.std.proofs.Common.{◌∙◌, ap, sym}
 use Rattle.config.specs.Reasons.{verdict_of}
 use Rattle.level.proofs.OpeningLaws.{with_reason}
 use Rattle.level.proofs.cache.Cache.new.Goals as goal
