@@ -35,7 +35,7 @@ pub record Sized (m : Marks) (ways : ℕ) : Type 0 where
 abbrev KeptSet : ℕ → ℕ → CacheSet → Type 0
 KeptSet ways way set = (way < ways) × (is_well_formed set ways ≡ true)
 
-found_below : (tags : List ℕ) (valid : List Bool) (tag way : ℕ) → lookup_of tags valid tag ≡ Some way → way < length valid
+pub found_below : (tags : List ℕ) (valid : List Bool) (tag way : ℕ) → lookup_of tags valid tag ≡ Some way → way < length valid
 unfolding lookup_of
 found_below tags valid tag way found =
     let here = position-Some (λ (line : Bool × ℕ). line.0 && line.1 == tag) (zip valid tags) way (false, 0) found in

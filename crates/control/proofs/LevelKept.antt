@@ -360,7 +360,7 @@ own_set_formed g a ram_len m level =
 
 -- ---- the lines
 
-same_line :
+pub same_line :
     (g : Geometry) (m after : Marks) (line : ℕ)
     → SameLine m after line
     → is_line_formed g m line ≡ true

@@ -15,3 +15,4 @@ pub mod Pasted
 pub mod OrdersLong
 pub mod LevelKept
 pub mod FreshFormed
+pub mod SweptKept
