@@ -1,14 +1,14 @@
 -- What an access keeps of a whole level: every other line and set, what stands past the last, and a well-formed level.
 use Rattle.std.proofs.Common.{◌≡◌, ◌≢◌, ◌∙◌, ℕ, ◌+◌, ◌-◌, ◌*◌, ◌^◌, ◌<◌, ◌≤◌, ◌⊎◌, true, false, List, ◌++◌, length, take, drop, set, replicate, nat_lt, ap, sym, refl, mod-lt, arith, ⊎_elim}
 use Rattle.std.specs.Prelude.{slice_index, slice_index_or}
+use Rattle.std.proofs.Math.Seq.{paste}
 use Rattle.std.proofs.lemmas.Bool.{and_parts, lt-ltb, ltb-true, cases_Bool, cases_eq}
 use Rattle.std.proofs.lemmas.List.{length-set, length-append, length-replicate, get_or-set_same, get_or-set_other, drop-set-lt, length-take-le, take_at}
 use Rattle.std.proofs.lemmas.List.Edits.{length-paste}
 use Rattle.sets.specs.Order.{is_order}
-use Rattle.sets.proofs.SetKept.{parts}
-use Rattle.std.proofs.Math.Seq.{paste}
 use Rattle.sets.specs.Policy.{is_well_formed}
 use Rattle.sets.specs.declared.set.CacheSet.{CacheSet}
+use Rattle.sets.proofs.SetKept.{parts}
 use Rattle.control.specs.declared.geometry.Geometry.{Geometry}
 use Rattle.control.specs.declared.marks.Marks.{Marks}
 use Rattle.control.specs.declared.plan.Access.{Access}
@@ -34,7 +34,7 @@ pub record Whole (m : Marks) : Type 0 where
   pub clock_hand : length m.clock_hand ≡ 256
   pub rand_state : length m.rand_state ≡ 256
 
--- the marks of a level that can be
+-- a level's geometry within the limits, and marks that it can have
 pub record Level (g : Geometry) (m : Marks) : Type 0 where
   pub fits : Fits g
   pub lines : g.sets * g.ways ≤ 256
@@ -100,7 +100,7 @@ after g a ram_len m = (stepped_marks g a ram_len m).marks
 abbrev served_line : Geometry → Access → ℕ → Marks → ℕ
 served_line g a ram_len m = (stepped_marks g a ram_len m).served.line
 
-pub set_among : (g : Geometry) (a : Access) → Fits g → set_of g a.addr < g.sets
+set_among : (g : Geometry) (a : Access) → Fits g → set_of g a.addr < g.sets
 set_among g a fits = mod-lt _ {m = g.sets} fits.some_sets
 
 -- what is known of the answer
