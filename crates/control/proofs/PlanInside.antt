@@ -11,8 +11,8 @@ use Rattle.control.specs.declared.plan.Kind.{Kind}
 use Rattle.control.specs.declared.plan.Kind.TheVariants.{Fetch, Load, Store}
 use Rattle.control.specs.declared.plan.Plan.{Plan}
 use Rattle.control.specs.Geometry.{base_of, offset_of, set_of, line_base}
-use Rattle.control.specs.Plan.{still, outside_of}
-use Rattle.control.specs.Access.{Marks, through, stored_of, read_of, refused_store, hit_step, past_step, written_back, writes_back, evicted_of, or_else, filled_or, alloc_step, accessed}
+use Rattle.control.specs.Plan.{still, outside_of, stored_of, read_of}
+use Rattle.control.specs.Access.{Marks, through, refused_store, hit_step, past_step, written_back, writes_back, evicted_of, or_else, filled_or, alloc_step, accessed}
 use Rattle.control.proofs.AccessCases.{by_cases}
 use Rattle.control.proofs.Reach.{reach_le}
 

@@ -19,7 +19,7 @@ use Rattle.control.specs.declared.stats.CacheStats.{CacheStats}
 use Rattle.control.specs.declared.allocate.Evicted.{Evicted}
 use Rattle.control.specs.Geometry.{tag_of, set_of, base_of, line_base}
 use Rattle.control.specs.Mark.{mark_at}
-use Rattle.control.specs.Plan.{still, outside_of}
+use Rattle.control.specs.Plan.{still, outside_of, stored_of, read_of}
 use Rattle.control.specs.Stats.{nothing, plus}
 
 -- ---- what the policies say of an access
@@ -48,17 +48,6 @@ allocates policy Fetch = true
 allocates policy Load = true
 allocates WriteAllocate Store = true
 allocates NoWriteAllocate Store = false
-
--- of so many bytes those that are stored, and those that are read
-abbrev pub stored_of : Kind → ℕ → ℕ
-stored_of Fetch width = 0
-stored_of Load width = 0
-stored_of Store width = width
-
-abbrev pub read_of : Kind → ℕ → ℕ
-read_of Fetch width = width
-read_of Load width = width
-read_of Store width = 0
 
 -- ---- the counters of each part
 
@@ -209,6 +198,7 @@ filled_or None g a way mark set evicted =
             fill = g.line_size;
             put = stored_of a.kind a.width;
             read = read_of a.kind a.width;
+            load = 0;
             refused = None;
           };
       stats = plus (alloc_stats g a mark evicted) (fill_stats g a);

@@ -21,7 +21,7 @@ pub use access::serve;
 pub use geometry::Geometry;
 pub use mark::{Lines, Mark};
 pub use marks::{Marks, Served};
-pub use plan::{Access, Kind, Plan, Step};
+pub use plan::{Access, Kind, Plan, Step, straight};
 pub use split::Request;
 pub use stats::CacheStats;
 pub use sweep::{LineStep, Sweep};

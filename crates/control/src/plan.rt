@@ -1,6 +1,6 @@
 ghost use Rattle.std.specs.Prelude.{◌≡◌, ◌≤◌};
 ghost use Rattle.ram.specs.Ram.{reach_of};
-ghost use Rattle.control.specs.Plan.{outside_of, still};
+ghost use Rattle.control.specs.Plan.{outside_of, still, straight_plan};
 
 use crate::{CacheStats, Mark};
 use sets::CacheSet;
@@ -38,6 +38,8 @@ pub struct Plan {
     pub put: u32,
     /// Of the line at the offset, to the value.
     pub read: u32,
+    /// Of RAM at the address, to the value.
+    pub load: u32,
     /// The address outside RAM that was needed, where one was.
     pub refused: Option<u32>,
 }
@@ -53,6 +55,7 @@ impl Default for Plan {
             fill: 0,
             put: 0,
             read: 0,
+            load: 0,
             refused: None,
         }
     }
@@ -67,6 +70,20 @@ pub struct Step {
     pub way: usize,
     pub mark: Mark,
     pub set: CacheSet,
+}
+
+/// An access on a level that passes everything on to RAM: nothing is looked up, and nothing counts.
+#[tactic(auto, unfolding(crate::specs::Plan::straight_plan))]
+pub fn straight(access: Access, ram_len: usize) -> Plan
+    requires { ram_len ≤ 16777216 }
+    ensures { result ≡ straight_plan access ram_len }
+{
+    Plan {
+        store: inside(ram_len, access.addr, access.stored()),
+        load: inside(ram_len, access.addr, access.read()),
+        refused: outside(ram_len, access.addr, access.width),
+        ..Plan::default()
+    }
 }
 
 /// How many of `n` bytes from `addr` on lie inside RAM.

@@ -1,11 +1,10 @@
 ghost use Rattle.std.specs.Prelude.{◌≡◌};
+ghost use Rattle.control.specs.Plan.{stored_of, read_of};
 ghost use Rattle.control.specs.Access.{
   is_through,
   through,
   dirties,
   allocates,
-  stored_of,
-  read_of,
   store_stats,
   hit_stats,
   miss_stats,

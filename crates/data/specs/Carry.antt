@@ -1,5 +1,5 @@
--- A plan carried out: five moves in their order, each the identity where its count is 0.
-use Rattle.std.specs.Prelude.{ℕ, List, if◌then◌else◌, ◌==◌, drop, slice_index}
+-- A plan carried out: six moves in their order, each the identity where its count is 0.
+use Rattle.std.specs.Prelude.{ℕ, List, if◌then◌else◌, nat_lt, drop, slice_index}
 use Rattle.std.proofs.Math.Seq.{paste}
 use Rattle.ram.specs.Ram.{bytes_of}
 use Rattle.control.specs.declared.plan.Plan.{Plan}
@@ -24,12 +24,14 @@ abbrev pub lines_after : Plan → Places → List ℕ → List ℕ → ℕ → L
 lines_after plan at ram lines value =
     paste (paste lines at.line (drop at.base ram) plan.fill) at.cell (bytes_of value) plan.put
 
--- the line's byte where one is read
-abbrev pub value_of : Plan → Places → List ℕ → ℕ
-value_of plan at lines = if plan.read == 0 then 0 else slice_index lines at.cell
+-- the line's byte where one is read, else RAM's where one is loaded
+abbrev pub value_of : Plan → Places → List ℕ → List ℕ → ℕ
+value_of plan at ram lines =
+    if nat_lt 0 plan.read then slice_index lines at.cell else
+    if nat_lt 0 plan.load then slice_index ram at.addr else 0
 
 unfoldable pub carried : Plan → Places → List ℕ → List ℕ → ℕ → Moved
 carried plan at ram lines value =
     let after = ram_after plan at ram lines value in
     let filled = lines_after plan at after lines value in
-    moved after filled (value_of plan at filled)
+    moved after filled (value_of plan at after filled)

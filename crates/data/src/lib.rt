@@ -29,6 +29,7 @@ pub fn carry_out(plan: Plan, at: Places, ram: &mut [u8], lines: &mut [u8], value
     requires fill_to { 0 < plan.fill → at.line + plan.fill ≤ length lines.old }
     requires put { (plan.put ≤ 4) × (0 < plan.put → at.cell + plan.put ≤ length lines.old) }
     requires read { 0 < plan.read → at.cell < length lines.old }
+    requires load { 0 < plan.load → at.addr < length ram.old }
     ensures { moved ram.new lines.new result ≡ carried plan at ram.old lines.old value }
 {
     let bytes = ram::bytes_of(value);
@@ -42,7 +43,13 @@ pub fn carry_out(plan: Plan, at: Places, ram: &mut [u8], lines: &mut [u8], value
     );
     ram::copy(lines, at.line, ram, at.base as usize, plan.fill as usize);
     ram::copy(lines, at.cell, &bytes, 0, plan.put as usize);
-    if plan.read == 0 { 0 } else { lines[at.cell] }
+    if plan.read > 0 {
+        lines[at.cell]
+    } else if plan.load > 0 {
+        ram[at.addr as usize]
+    } else {
+        0
+    }
 }
 
 /// A sweep's step at a line that begins at `line` in the line bytes: those of its bytes that RAM takes.
