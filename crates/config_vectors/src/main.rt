@@ -22,25 +22,7 @@ fn main() {
     for record in list[..len].chunks_exact(64) {
         let addr = LittleEndian::read_u32(&record[56..]);
         // Output that goes nowhere is no reason to stop.
-        let _ = show(config_of(record), addr);
-    }
-}
-
-fn config_of(record: &[u8]) -> CacheConfig
-    requires { length record.now ≡ 64 }
-{
-    CacheConfig {
-        size: LittleEndian::read_u64(&record[..]),
-        line_size: LittleEndian::read_u64(&record[8..]),
-        associativity: LittleEndian::read_u64(&record[16..]),
-        replacement: record[52],
-        write_policy: record[53],
-        write_alloc: record[54],
-        inclusion: record[55],
-        hit_latency: LittleEndian::read_u64(&record[24..]),
-        miss_penalty: LittleEndian::read_u64(&record[32..]),
-        assoc_penalty: LittleEndian::read_u64(&record[40..]),
-        transfer_width: LittleEndian::read_u32(&record[48..]),
+        let _ = show(replay::config_of(record), addr);
     }
 }
 

@@ -53,28 +53,10 @@ fn one(level: Option<Level>, record: &[u8]) -> Option<Level>
     Some(level)
 }
 
-fn config_of(record: &[u8]) -> CacheConfig
-    requires { length record.now ≡ 64 }
-{
-    CacheConfig {
-        size: LittleEndian::read_u64(&record[..]),
-        line_size: LittleEndian::read_u64(&record[8..]),
-        associativity: LittleEndian::read_u64(&record[16..]),
-        replacement: record[52],
-        write_policy: record[53],
-        write_alloc: record[54],
-        inclusion: record[55],
-        hit_latency: LittleEndian::read_u64(&record[24..]),
-        miss_penalty: LittleEndian::read_u64(&record[32..]),
-        assoc_penalty: LittleEndian::read_u64(&record[40..]),
-        transfer_width: LittleEndian::read_u32(&record[48..]),
-    }
-}
-
 fn opened(record: &[u8]) -> Option<Level>
     requires { length record.now ≡ 64 }
 {
-    let g = Geometry::of(config_of(record))?;
+    let g = Geometry::of(replay::config_of(record))?;
     let _ = writeln!(Stdout, "{} {}", g.sets, g.ways);
     Some(Level {
         g,
