@@ -14,7 +14,6 @@ ghost use Rattle.std.specs.Prelude.{◌≡◌, ◌*◌, ◌≤◌, length};
 ghost use Rattle.control.specs.Geometry.{Fits};
 
 use byteorder::{ByteOrder, LittleEndian};
-use config::CacheConfig;
 use control::{Access, CacheStats, Geometry, Kind, Marks, Sweep};
 use replay::Stdout;
 use std::fmt;
