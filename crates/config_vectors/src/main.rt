@@ -33,7 +33,8 @@ fn show(c: CacheConfig, addr: u32) -> fmt::Result {
     }
     write!(
         out,
-        "0 {} {} {} ",
+        "{} {} {} {} ",
+        0,
         c.num_sets(),
         c.offset_bits(),
         c.index_bits()

@@ -7,17 +7,15 @@ use byteorder::{ByteOrder, LittleEndian};
 use config::CacheConfig;
 use std::fmt;
 
-/// Standard output, for `write!` and `writeln!`.
+/// Standard output, for `write!` and `writeln!`. A piece that cannot be written is left out, and those after it are
+/// tried all the same.
 #[derive(Clone, Copy, Debug)]
 pub struct Stdout;
 
 impl fmt::Write for Stdout {
     fn write_str(&mut self, text: &str) -> fmt::Result {
-        if io::write_all(1, text.as_bytes()) {
-            Ok(())
-        } else {
-            Err(fmt::Error)
-        }
+        let _ = io::write_all(1, text.as_bytes());
+        Ok(())
     }
 }
 
