@@ -85,17 +85,10 @@ impl From<Result<u8, Refusal>> for Loaded {
     ghost from_gives = { λ answer as_numbers. as_numbers ≡ loaded_of answer };
 
     fn from(answer: Result<u8, Refusal>) -> Loaded {
-        match answer {
-            Ok(value) => Loaded {
-                no: 0,
-                place: 0,
-                value,
-            },
-            Err(refusal) => Loaded {
-                no: refusal.number(),
-                place: refusal.place(),
-                value: 0,
-            },
+        Loaded {
+            no: answer.err().map_or(0, |refusal| refusal.number()),
+            place: answer.err().map_or(0, |refusal| refusal.place()),
+            value: answer.unwrap_or(0),
         }
     }
 }
@@ -136,7 +129,10 @@ pub fn copy(dst: &mut [u8], at: usize, src: &[u8], from: usize, n: usize)
     requires { (0 < n → at + n ≤ length dst.old) × (0 < n → from + n ≤ length src.now) }
     ensures { dst.new ≡ paste dst.old at (drop from src.now) n }
 {
-    if 0 < n {
+    // One byte needs no call: for it the bulk copy takes longer than the store.
+    if n == 1 {
+        dst[at] = src[from];
+    } else if 0 < n {
         dst[at..at + n].copy_from_slice(&src[from..from + n]);
     }
 }
