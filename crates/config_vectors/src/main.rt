@@ -31,6 +31,7 @@ fn show(c: CacheConfig, addr: u32) -> fmt::Result {
     if let Err(reason) = c.validate() {
         return writeln!(out, "{}", reason.number());
     }
+    // The 0 is a piece of its own, as each number is: where output fails, no more is lost than one piece.
     write!(
         out,
         "{} {} {} {} ",

@@ -85,6 +85,7 @@ impl From<Result<u8, Refusal>> for Loaded {
     ghost from_gives = { λ answer as_numbers. as_numbers ≡ loaded_of answer };
 
     fn from(answer: Result<u8, Refusal>) -> Loaded {
+        // Field by field: by a match the code of a load that is served would jump.
         Loaded {
             no: answer.err().map_or(0, |refusal| refusal.number()),
             place: answer.err().map_or(0, |refusal| refusal.place()),
@@ -125,14 +126,17 @@ pub fn reach(len: usize, addr: u32, n: usize) -> usize
 
 /// `n` bytes of `src` from `from` on are laid into `dst` from `at` on; with n = 0 nothing happens,
 /// wherever `at` and `from` stand.
+#[tactic(auto, using(crate::proofs::CopyLaws::turn))]
 pub fn copy(dst: &mut [u8], at: usize, src: &[u8], from: usize, n: usize)
     requires { (0 < n → at + n ≤ length dst.old) × (0 < n → from + n ≤ length src.now) }
     ensures { dst.new ≡ paste dst.old at (drop from src.now) n }
 {
-    // One byte needs no call: for it the bulk copy takes longer than the store.
-    if n == 1 {
-        dst[at] = src[from];
-    } else if 0 < n {
+    // As few bytes as a value has take less time one by one than by a call.
+    if n <= 4 {
+        for i in 0..n {
+            dst[at + i] = src[from + i];
+        }
+    } else {
         dst[at..at + n].copy_from_slice(&src[from..from + n]);
     }
 }

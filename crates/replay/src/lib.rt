@@ -7,7 +7,7 @@ use byteorder::{ByteOrder, LittleEndian};
 use config::CacheConfig;
 use std::fmt;
 
-/// Standard output, for `write!` and `writeln!`. A piece that cannot be written is left out, and those after it are
+/// Standard output, for `write!` and `writeln!`. A piece that cannot be written is given up, and those after it are
 /// tried all the same.
 #[derive(Clone, Copy, Debug)]
 pub struct Stdout;
