@@ -85,7 +85,7 @@ impl From<Result<u8, Refusal>> for Loaded {
     ghost from_gives = { λ answer as_numbers. as_numbers ≡ loaded_of answer };
 
     fn from(answer: Result<u8, Refusal>) -> Loaded {
-        // Field by field: by a match the code of a load that is served would jump.
+        // Field by field: a match would cost a load that is served a jump.
         Loaded {
             no: answer.err().map_or(0, |refusal| refusal.number()),
             place: answer.err().map_or(0, |refusal| refusal.place()),
@@ -131,7 +131,7 @@ pub fn copy(dst: &mut [u8], at: usize, src: &[u8], from: usize, n: usize)
     requires { (0 < n → at + n ≤ length dst.old) × (0 < n → from + n ≤ length src.now) }
     ensures { dst.new ≡ paste dst.old at (drop from src.now) n }
 {
-    // As few bytes as a value has take less time one by one than by a call.
+    // Up to four bytes, as many as a value has, take less time one by one than by a call.
     if n <= 4 {
         for i in 0..n {
             dst[at + i] = src[from + i];
